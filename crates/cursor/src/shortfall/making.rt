@@ -1,0 +1,23 @@
+// The making of a shortfall: none is made of 0.
+ghost use mathlib.Core.Path.{_≡_};
+ghost use Rattle.cursor.specs.NonZero.{shortfallOf};
+use crate::shortfall::Shortfall;
+
+impl Shortfall {
+    // A shortfall of so many places, or none if nothing is missing.
+    pub fn new(places: u64) -> Option<Shortfall>
+        ensures { λ r. ⌜ r ≡ shortfallOf places ⌝ }
+    {
+        if places == 0 {
+            None
+        } else {
+            Some(Shortfall { places })
+        }
+    }
+
+    pub fn get(self) -> u64
+        ensures { λ r. ⌜ r ≡ self .places ⌝ }
+    {
+        self.places
+    }
+}

@@ -1,0 +1,2 @@
+// What goes over the bus. Today only the stroke; frames come with the bus.
+pub mod stroke;

@@ -1,0 +1,9 @@
+pub mod Bytes
+pub mod Codes
+pub mod Steps
+pub mod Rights
+pub mod Verdicts
+pub mod Seens
+pub mod Turns
+pub mod Fills
+pub mod Meanings
