@@ -74,21 +74,27 @@ pub record Filling (bs : List ℕ) (P0 T0 : List Stroke) (at p t : ℕ) (P T : L
   pub purges : Table 3 rs qs P0 P p
   pub tints : Table 2 rs qs T0 T t
 
+-- each record of a lawful ticket fits its bytes
 pub lawful-fits : (room : Room) (rs : List Record) → Lawful room rs → All Fits rs
 lawful-fits room rs l = subst (All Fits) (sym (l .ends)) (all-push Fits (l .inner) (End (count 2 (l .inner) + count 3 (l .inner))) (l .right .fits) (end-fits room rs l))
 
+-- and its tables have room for its strokes
+pub lawful-room : (room : Room) (rs : List Record) → Lawful room rs → (count 3 rs ≤ room .purges) × (count 2 rs ≤ room .tints)
+lawful-room room rs l =
+    let n : ℕ = count 2 (l .inner) + count 3 (l .inner) in
+    let counted : (k : ℕ) → eqb 15 k ≡ false → count k rs ≡ count k (l .inner) =
+      λ k h. ap (count k) (l .ends) ∙ (count-append k (l .inner) (End n ∷ []) ∙ omega (arith, is-by k (End n) false h)) in
+    (omega (arith, counted 3 refl, l .right .purges), omega (arith, counted 2 refl, l .right .tints))
+
 pub filling-none : (bs : List ℕ) (P0 T0 : List Stroke) → Spells (roomOf P0 T0) bs → Filling bs P0 T0 0 0 0 P0 T0
 filling-none bs P0 T0 s =
+    let room = roomOf P0 T0 in
     let rs : List Record = s .0 in
-    let l = s .1 in
-    let n : ℕ = count 2 (l .inner) + count 3 (l .inner) in
-    let e = l .ends in
-    let f : All Fits rs = lawful-fits (roomOf P0 T0) rs l in
-    let counted : (k : ℕ) → eqb 15 k ≡ false → count k rs ≡ count k (l .inner) = λ k h. ap (count k) e ∙ (count-append k (l .inner) (End n ∷ []) ∙ omega (arith, is-by k (End n) false h)) in
+    let f = lawful-fits room rs (s .1) in
+    let h = lawful-room room rs (s .1) in
     record {
       rs = rs; qs = rs; fits = f; bytes = s .2; left = sym (s .2); left-fits = f;
-      purges = table-none 3 rs P0 (omega (arith, counted 3 refl, l .right .purges));
-      tints = table-none 2 rs T0 (omega (arith, counted 2 refl, l .right .tints))
+      purges = table-none 3 rs P0 (h .0); tints = table-none 2 rs T0 (h .1)
     }
 
 uncons : (qs : List Record) → 0 < length (written qs) → (r : Record) × (ss : List Record) × (qs ≡ r ∷ ss)

@@ -64,6 +64,9 @@ stands-mid room rs r ss h =
       free = grind (arith, tells)
     }
 
+pub right-none : (room : Room) → Right room []
+right-none room = record { headed = tt; unended = refl; fits = tt; allowed = tt; once = λ k lo hi. omega arith; purges = omega arith; tints = omega arith }
+
 headed-push : (rs : List Record) (r : Record) → Headed rs → misplaced (λ k. count k rs) (kind r) ≡ false → Headed (rs ++ (r ∷ []))
 headed-push [] r h m = (eqb-true (kind r) 1 (not-false (eqb (kind r) 1) m), refl)
 headed-push (x ∷ rs) r h m = let e = h .0 in let n = h .1 in let a = count-append 1 rs (r ∷ []) in (e, grind (arith, tells))

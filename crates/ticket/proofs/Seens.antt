@@ -12,7 +12,7 @@ use Rattle.std.proofs.shelf.Tests.{cases-eq, eq-eqb, ne-eqb}
 use Rattle.cursor.specs.declared.stride.Stride.{Stride}
 use Rattle.ticket.specs.declared.record.Record.{Record}
 use Rattle.ticket.specs.declared.record.Record.the-variants.{Head, Tint, Purge, Resume, Limit, Every, First, End}
-use Rattle.ticket.specs.declared.seen.Loaded.{Loaded}
+use Rattle.ticket.specs.declared.loaded.Loaded.{Loaded}
 use Rattle.ticket.specs.declared.seen.Seen.{Seen}
 use Rattle.ticket.specs.Records.{kind}
 use Rattle.ticket.specs.Lists.{canNumber, says, is, count, said, Says}

@@ -21,7 +21,7 @@ use Rattle.std.specs.declared.result.Result.the-variants.{Ok, Err}
 use Rattle.ticket.specs.declared.faults.CanFault.{CanFault}
 use Rattle.ticket.specs.declared.record.Record.{Record}
 use Rattle.ticket.specs.declared.record.Record.the-variants.{Head, Tint, Purge, Resume, Limit, Every, First, End}
-use Rattle.ticket.specs.declared.seen.Loaded.{Loaded}
+use Rattle.ticket.specs.declared.loaded.Loaded.{Loaded}
 use Rattle.ticket.specs.declared.seen.Room.{Room}
 use Rattle.ticket.specs.declared.seen.Seen.{Seen}
 use Rattle.ticket.specs.Kinds.{bodyIn}
@@ -33,7 +33,7 @@ use Rattle.ticket.specs.Reading.{tally, recordOf, stepped, nothing, noted, ans
 use Rattle.ticket.proofs.Bytes.{number-big}
 use Rattle.ticket.proofs.Codes.{bodies, Coded, body-length}
 use Rattle.ticket.proofs.Steps.{Off, skip, outcome}
-use Rattle.ticket.proofs.Rights.{Stands, right-push}
+use Rattle.ticket.proofs.Rights.{Stands, right-none, right-push}
 use Rattle.ticket.proofs.Verdicts.{written-append, count-le}
 use Rattle.ticket.proofs.Seens.{Holds, holds-none, holds-push, holds-says}
 
@@ -61,10 +61,7 @@ ok-err : {x : Record} {e : CanFault} {v : Result Record CanFault} → v ≡ Ok x
 ok-err p q = let z : _≡_ {A = ℕ} 0 1 = cc in omega arith
 
 pub sofar-none : (room : Room) (bs : List ℕ) → Sofar room bs 0 nothing
-sofar-none room bs = record {
-    rs = []; bytes = refl; place = refl; holds = holds-none;
-    right = record { headed = tt; unended = refl; fits = tt; allowed = tt; once = λ k lo hi. omega arith; purges = omega arith; tints = omega arith }
-  }
+sofar-none room bs = record { rs = []; right = right-none room; bytes = refl; place = refl; holds = holds-none }
 
 module _ (room : Room) (bs : List ℕ) (at : ℕ) (s : Seen) (f : Sofar room bs at s) where
   pub small : length bs ≤ 32768 → at ≤ length bs → (k : ℕ) → tally s k ≤ 32768

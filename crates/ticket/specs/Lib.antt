@@ -5,3 +5,4 @@ pub mod Lists
 pub mod Refusals
 pub mod Reading
 pub mod Loading
+pub mod Samples

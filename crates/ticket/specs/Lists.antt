@@ -10,7 +10,7 @@ use Rattle.std.specs.shelf.Lists.{All}
 use Rattle.frame.specs.declared.stroke.Stroke.{Stroke}
 use Rattle.ticket.specs.declared.record.Record.{Record}
 use Rattle.ticket.specs.declared.record.Record.the-variants.{Head, Tint, Purge, Resume, Limit, Every, First, End}
-use Rattle.ticket.specs.declared.seen.Loaded.{Loaded}
+use Rattle.ticket.specs.declared.loaded.Loaded.{Loaded}
 use Rattle.ticket.specs.declared.seen.Room.{Room}
 use Rattle.ticket.specs.Records.{kind, written, Fits}
 

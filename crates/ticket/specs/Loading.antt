@@ -10,7 +10,7 @@ use Rattle.std.specs.declared.result.Result.the-variants.{Ok, Err}
 use Rattle.frame.specs.declared.stroke.Stroke.{Stroke}
 use Rattle.ticket.specs.declared.faults.CanFault.{CanFault}
 use Rattle.ticket.specs.declared.record.Record.{Record}
-use Rattle.ticket.specs.declared.seen.Loaded.{Loaded}
+use Rattle.ticket.specs.declared.loaded.Loaded.{Loaded}
 use Rattle.ticket.specs.declared.seen.Room.{Room}
 use Rattle.ticket.specs.Records.{written}
 use Rattle.ticket.specs.Lists.{count, strokes, Lawful, Says}

@@ -17,7 +17,7 @@ use Rattle.ticket.specs.declared.faults.CanFault.{CanFault}
 use Rattle.ticket.specs.declared.faults.CanFault.the-variants.{Record}
 use Rattle.ticket.specs.declared.record.Record.{Record as Entry}
 use Rattle.ticket.specs.declared.record.Record.the-variants.{Head, Tint, Purge, Resume, Limit, Every, First, End}
-use Rattle.ticket.specs.declared.seen.Loaded.{Loaded}
+use Rattle.ticket.specs.declared.loaded.Loaded.{Loaded}
 use Rattle.ticket.specs.declared.seen.Room.{Room}
 use Rattle.ticket.specs.declared.seen.Seen.{Seen}
 use Rattle.ticket.specs.Kinds.{bodyIn}

@@ -102,8 +102,9 @@ impl Seen {
         ensures { λ r. ⌜ r ≡ ordered (tally (now (self .entry))) place kind ⌝ }
     {
         match kind {
-            0x01 if self.counts[0x01] > 0 => Err(CanFault::Misplaced(place)),
-            0x00 | 0x02..=0xFF if self.counts[0x01] == 0 => Err(CanFault::Misplaced(place)),
+            0x01 if self.counts[0x01] == 0 => Ok(()),
+            0x01 => Err(CanFault::Misplaced(place)),
+            _ if self.counts[0x01] == 0 => Err(CanFault::Misplaced(place)),
             0x04..=0x07 if self.counts[kind as usize] > 0 => Err(CanFault::Twice(place)),
             _ => Ok(()),
         }

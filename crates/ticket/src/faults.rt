@@ -73,7 +73,7 @@ pub impl From<(RecordFault, usize)> for CanFault as CanFromRecord {
 }
 
 // A record's fault joined with the place of the record, for `?` to carry on.
-pub fn at<T>(r: Result<T, RecordFault>, place: usize) -> Result<T, (RecordFault, usize)>
+pub(crate) fn at<T>(r: Result<T, RecordFault>, place: usize) -> Result<T, (RecordFault, usize)>
     ensures { λ s. ⌜ s ≡ placed r place ⌝ }
 {
     match r {

@@ -1,7 +1,8 @@
 // Tickets: loaded entire, or refused by a number with everything left as it was.
 pub mod faults;
 pub mod kinds;
+pub mod loaded;
 pub mod loading;
 pub mod record;
-pub mod seen;
 mod checks;
+mod seen;

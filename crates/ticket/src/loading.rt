@@ -4,13 +4,14 @@ ghost use mathlib.Core.List.{List};
 ghost use Rattle.ticket.specs.declared.record.Record.{Record};
 ghost use Rattle.std.specs.shelf.Lists.{All};
 ghost use Rattle.ticket.specs.Records.{written, Fits, Unambiguous};
+ghost use Rattle.ticket.specs.Samples.{Samples};
 ghost use Rattle.ticket.specs.Loading.{roomOf, filled, Spells, Loading, Judged};
 use crate::checks::stroke;
 use crate::faults::CanFault;
 use crate::kinds::BODIES;
 use crate::kinds::body_len;
+use crate::loaded::Loaded;
 use crate::record::Record;
-use crate::seen::Loaded;
 use crate::seen::Room;
 use crate::seen::Seen;
 use frame::stroke::Stroke;
@@ -83,6 +84,13 @@ pub fn load(bytes: &[u8], purges: &mut [Stroke], tints: &mut [Stroke]) -> Result
 // Two lists of records with the same writing are the same list.
 pub fn unambiguous() -> u8
     ensures { λ _. ⌜ Unambiguous ⌝ }
+{
+    0
+}
+
+// The worked examples of the format's pages, on the definitions.
+pub fn samples_stand() -> u8
+    ensures { λ _. do ⌜ Samples (← ⟦BODIES⟧ .entry) ⌝ }
 {
     0
 }

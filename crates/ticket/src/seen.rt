@@ -1,9 +1,10 @@
-// What a reader has seen of a ticket so far, and what it answers in the end.
+// What the reader has seen of a ticket so far.
 ghost use mathlib.Core.Path.{_≡_};
 ghost use Prim.Native.Nat.{_+_, _^_, _<_};
 ghost use lib.ListN.{getD};
 ghost use Rattle.ticket.specs.Records.{kind};
 ghost use Rattle.ticket.specs.Reading.{nothing, noted, answered};
+use crate::loaded::Loaded;
 use crate::record::Record;
 use cursor::stride::Stride;
 
@@ -12,21 +13,6 @@ use cursor::stride::Stride;
 pub struct Room {
     pub purges: usize,
     pub tints: usize,
-}
-
-// What a ticket says, but for its strokes, which are in the tables.
-#[derive(Clone, Copy)]
-pub struct Loaded {
-    pub purges: usize,
-    pub tints: usize,
-    // the can's number, and its size in ml
-    pub can: u32,
-    pub size: u16,
-    pub resume: u64,
-    pub limit: u64,
-    pub stride: Stride,
-    // the first canister to stir
-    pub first: u8,
 }
 
 // What the records so far say.
