@@ -107,15 +107,13 @@ def strokes_in_turn(count):
 
 
 def lengths():
-    def tables(records):
-        kinds = [record[0] for record in records]
-        return kinds.count(3), kinds.count(2)
+    """Few, as each takes 32 KB. A table has just as many entries as the ticket has strokes."""
 
     def sized(length, records, want):
         ticket = b"".join(records)
         assert len(ticket) == length, (len(ticket), length)
-        purges, tints = tables(records)
-        add(ticket, purges, tints, want)
+        kinds = [record[0] for record in records]
+        add(ticket, kinds.count(3), kinds.count(2), want)
 
     s = strokes_in_turn(9999)
     sized(32768, [head(1, 2), *s[:4000], first(15), *s[4000:8189], end(8189)], "loaded")
@@ -124,9 +122,9 @@ def lengths():
     sized(32768, [H, *s[:8188], stride(2)], (11, 32768))
     sized(32768, [H, *s[:8190], b"\x0F"], (4, 32767))
     sized(32769, [H, first(1), limit(2), *s[:8187], end(8187)], (2, 32768))
-    sized(32769, [H, *s[:8189], first(1), end(8189), b"\x00"], (2, 32768))
-    add(bytes(32769), 0, 0, (2, 32768))
-    add(b"".join([H, *s[:8189], stride(0)])[:32769], 0, 0, (2, 32768))
+    sized(32769, [H, *s[:8189], first(1), end(8189), b"\x00"], (2, 32768))  # not 10
+    add(bytes(32769), 0, 0, (2, 32768))  # not 3
+    add(b"".join([H, *s[:8191]])[:32769], 0, 0, (2, 32768))  # no end; not 4, 8 or 11
     sized(40000, [H, *s[:9997], first(1), end(9997)], (2, 32768))
 
 
@@ -275,7 +273,7 @@ def several_faults_in_one_record():
         add([H, H[:cut]], want=(4, 7))  # 4 and 5
     for record, one, _ in SETTINGS:
         again = record(one)
-        for cut in {1, len(again) - 1}:
+        for cut in sorted({1, len(again) - 1}):
             add([H, again, again[:cut]], want=(4, 7 + len(again)))  # 4 and 6
         add([again, again], want=(5, 0))
     for stroke in (tint, purge):
