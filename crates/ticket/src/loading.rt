@@ -49,8 +49,8 @@ fn fill(bytes: &[u8], purges: &mut [Stroke], tints: &mut [Stroke])
         → (now (purges .exit) ≡ filled 3 rs (now (purges .entry))) × (now (tints .exit) ≡ filled 2 rs (now (tints .entry)))) ⌝ }
 {
     let mut at = 0;
-    let mut p = 0;
-    let mut t = 0;
+    let mut p: usize = 0;
+    let mut t: usize = 0;
     while at < bytes.len() {
         let kind = bytes[at];
         let len = body_len(kind) as usize;
