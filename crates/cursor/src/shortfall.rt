@@ -1,5 +1,6 @@
 // By how many places an advance fell short of what was asked: never 0, as NonZero.
 ghost use Prim.Native.Nat.{_<_};
+
 pub mod making;
 
 #[derive(Clone, Copy, Debug)]

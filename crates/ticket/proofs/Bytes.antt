@@ -34,10 +34,20 @@ module _ (xs : List ℕ) where
       omega (arith, more 0 (omega arith), more 1 (omega arith), more 2 (omega arith), more 3 (omega arith), ap (number 256) (take-all 4 xs (omega arith)))
 
   pub number-in-8 : length xs ≡ 8
-    → x 0 * 72057594037927936 + x 1 * 281474976710656 + x 2 * 1099511627776 + x 3 * 4294967296 + x 4 * 16777216 + x 5 * 65536 + x 6 * 256 + x 7 ≡ number 256 xs
+      → x 0 * 72057594037927936 + x 1 * 281474976710656 + x 2 * 1099511627776 + x 3 * 4294967296 + x 4 * 16777216 + x 5 * 65536 + x 6 * 256 + x 7 ≡ number 256 xs
   number-in-8 h =
-      omega (arith, more 0 (omega arith), more 1 (omega arith), more 2 (omega arith), more 3 (omega arith), more 4 (omega arith),
-      more 5 (omega arith), more 6 (omega arith), more 7 (omega arith), ap (number 256) (take-all 8 xs (omega arith)))
+      omega (
+        arith,
+        more 0 (omega arith),
+        more 1 (omega arith),
+        more 2 (omega arith),
+        more 3 (omega arith),
+        more 4 (omega arith),
+        more 5 (omega arith),
+        more 6 (omega arith),
+        more 7 (omega arith),
+        ap (number 256) (take-all 8 xs (omega arith)),
+      )
 
 pub big-length : (w n : ℕ) → length (big w n) ≡ w
 unfolding big

@@ -133,9 +133,12 @@ encode k k1 xs l u h s =
     let a = big-number (take 4 xs) 4 (length-take-le 4 xs (omega arith)) (all-take (λ d. d < 256) 4 xs u) in
     let e : take 2 (drop 4 xs) ≡ drop 4 xs = take-all 2 (drop 4 xs) (omega (arith, length-drop 4 xs)) in
     let b = big-number (drop 4 xs) 2 (omega (arith, length-drop 4 xs)) (all-drop (λ d. d < 256) 4 xs u) in
-    record { kind-is = refl;
+    record {
+      kind-is = refl;
       body-is = ap₂ (λ (p q : List ℕ). p ++ q) (a .1) (ap (λ (ys : List ℕ). big 2 (number 256 ys)) e ∙ b .1) ∙ take-append-drop 4 xs;
-      fits = (a .0, rw e (b .0)); allowed = tt }
+      fits = (a .0, rw e (b .0));
+      allowed = tt;
+    }
 encode k k2 [] l u h s = absurd (omega arith)
 encode k k2 (x ∷ xs) l u h s = let t = tail x xs (omega arith) u in record { kind-is = refl; body-is = t .1; fits = (u .0, t .0); allowed = ltb-false 15 x h }
 encode k k3 [] l u h s = absurd (omega arith)
@@ -152,9 +155,10 @@ encode k k7 (x ∷ y ∷ xs) l u h s = absurd (omega arith)
 encode k k15 xs l u h s = let b = big-number xs 2 l u in record { kind-is = refl; body-is = b .1; fits = b .0; allowed = tt }
 
 same-front : (p q x y : List ℕ) → length p ≡ length q → p ++ x ≡ q ++ y → (p ≡ q) × (x ≡ y)
-same-front p q x y l e =
-    (sym (take-at p x (length p) refl) ∙ (ap (take (length p)) e ∙ take-at q y (length p) (sym l)),
-     sym (drop-at p x (length p) refl) ∙ (ap (drop (length p)) e ∙ drop-at q y (length p) (sym l)))
+same-front p q x y l e = (
+  sym (take-at p x (length p) refl) ∙ (ap (take (length p)) e ∙ take-at q y (length p) (sym l)),
+  sym (drop-at p x (length p) refl) ∙ (ap (drop (length p)) e ∙ drop-at q y (length p) (sym l)),
+)
 
 -- bytes that begin with a record begin with no other
 pub first-record : (r s : Record) (ys zs : List ℕ) → Fits r → Fits s → kind r ∷ (body r ++ ys) ≡ kind s ∷ (body s ++ zs) → (r ≡ s) × (ys ≡ zs)
@@ -173,21 +177,23 @@ pub record Longer (rs ss : List Record) (ys zs : List ℕ) : Type 0 where
 
 -- two lists of records that the same bytes begin with are the same, or one goes on where the other stops
 pub fork : (rs ss : List Record) (ys zs : List ℕ) → All Fits rs → All Fits ss → written rs ++ ys ≡ written ss ++ zs
-  → ((rs ≡ ss) × (ys ≡ zs)) ⊎ (Longer rs ss ys zs ⊎ Longer ss rs zs ys)
+    → ((rs ≡ ss) × (ys ≡ zs)) ⊎ (Longer rs ss ys zs ⊎ Longer ss rs zs ys)
 fork [] [] ys zs f g e = inl (refl, e)
 fork [] (s ∷ ss) ys zs f g e = inr (inl (record { next = s; rest = ss; list = refl; left = e ∙ ap (λ (xs : List ℕ). kind s ∷ xs) (append-assoc (body s) (written ss) zs) }))
 fork (r ∷ rs) [] ys zs f g e = inr (inr (record { next = r; rest = rs; list = refl; left = sym e ∙ ap (λ (xs : List ℕ). kind r ∷ xs) (append-assoc (body r) (written rs) ys) }))
 fork (r ∷ rs) (s ∷ ss) ys zs f g e =
     let b = first-record r s (written rs ++ ys) (written ss ++ zs) (f .0) (g .0)
-      (sym (ap (λ (xs : List ℕ). kind r ∷ xs) (append-assoc (body r) (written rs) ys)) ∙ (e ∙ ap (λ (xs : List ℕ). kind s ∷ xs) (append-assoc (body s) (written ss) zs))) in
+    (sym (ap (λ (xs : List ℕ). kind r ∷ xs) (append-assoc (body r) (written rs) ys)) ∙ (e ∙ ap (λ (xs : List ℕ). kind s ∷ xs) (append-assoc (body s) (written ss) zs))) in
     elim (fork rs ss ys zs (f .1) (g .1) (b .1)) [
-      inl q ↦ inl (ap₂ _∷_ (b .0) (q .0), q .1)
-    | inr (inl q) ↦ inr (inl (record { next = q .next; rest = q .rest; list = ap₂ _∷_ (sym (b .0)) (q .list); left = q .left }))
-    | inr (inr q) ↦ inr (inr (record { next = q .next; rest = q .rest; list = ap₂ _∷_ (b .0) (q .list); left = q .left })) ]
+      | inl q ↦ inl (ap₂ _∷_ (b .0) (q .0), q .1)
+      | inr (inl q) ↦ inr (inl (record { next = q .next; rest = q .rest; list = ap₂ _∷_ (sym (b .0)) (q .list); left = q .left }))
+      | inr (inr q) ↦ inr (inr (record { next = q .next; rest = q .rest; list = ap₂ _∷_ (b .0) (q .list); left = q .left }))
+    ]
 
 pub unique : Unambiguous
 unique rs ss f g e =
     elim (fork rs ss [] [] f g (append-nil (written rs) ∙ (e ∙ sym (append-nil (written ss))))) [
-      inl q ↦ q .0
-    | inr (inl q) ↦ absurd (omega (arith, ap length (q .left)))
-    | inr (inr q) ↦ absurd (omega (arith, ap length (q .left))) ]
+      | inl q ↦ q .0
+      | inr (inl q) ↦ absurd (omega (arith, ap length (q .left)))
+      | inr (inr q) ↦ absurd (omega (arith, ap length (q .left)))
+    ]

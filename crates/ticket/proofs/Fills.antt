@@ -45,23 +45,23 @@ table-none k rs old h =
     let l = strokes-length k rs in
     record {
       fills = sets-eq (strokes k rs) old 0 (omega arith) ∙ ap (λ (n : ℕ). strokes k rs ++ drop n old) (zero-add (length (strokes k rs)) ∙ l);
-      room = omega arith
+      room = omega arith;
     }
 
 is-by : (k : ℕ) (r : Record) (b : Bool) → eqb (kind r) k ≡ b → is k r ≡ cond b 1 0
 is-by k r b e = ap (λ (v : Bool). cond {A = ℕ} v 1 0) e
 
 table-on : (b : Bool) (k : ℕ) (rs : List Record) (r : Record) (qs : List Record) (old now : List Stroke) (i : ℕ) → eqb (kind r) k ≡ b
-  → Table k rs (r ∷ qs) old now i → Table k rs qs old (cond b (set now i (stroke r)) now) (cond b (i + 1) i)
+    → Table k rs (r ∷ qs) old now i → Table k rs qs old (cond b (set now i (stroke r)) now) (cond b (i + 1) i)
 table-on true k rs r qs old now i e t =
     record {
       fills = ap (λ (j : ℕ). sets (set now i (stroke r)) j (strokes k qs)) (add-one i) ∙ (sym (ap (λ (b : Bool). sets now i (keep b (stroke r) (strokes k qs))) e) ∙ t .fills);
-      room = omega (arith, t .room, length-set now i (stroke r), is-by k r true e)
+      room = omega (arith, t .room, length-set now i (stroke r), is-by k r true e);
     }
 table-on false k rs r qs old now i e t =
     record {
       fills = sym (ap (λ (b : Bool). sets now i (keep b (stroke r) (strokes k qs))) e) ∙ t .fills;
-      room = omega (arith, t .room, is-by k r false e)
+      room = omega (arith, t .room, is-by k r false e);
     }
 
 pub record Filling (bs : List ℕ) (P0 T0 : List Stroke) (at p t : ℕ) (P T : List Stroke) : Type 0 where
@@ -83,7 +83,7 @@ pub lawful-room : (room : Room) (rs : List Record) → Lawful room rs → (count
 lawful-room room rs l =
     let n : ℕ = count 2 (l .inner) + count 3 (l .inner) in
     let counted : (k : ℕ) → eqb 15 k ≡ false → count k rs ≡ count k (l .inner) =
-      λ k h. ap (count k) (l .ends) ∙ (count-append k (l .inner) (End n ∷ []) ∙ omega (arith, is-by k (End n) false h)) in
+    λ k h. ap (count k) (l .ends) ∙ (count-append k (l .inner) (End n ∷ []) ∙ omega (arith, is-by k (End n) false h)) in
     (omega (arith, counted 3 refl, l .right .purges), omega (arith, counted 2 refl, l .right .tints))
 
 pub filling-none : (bs : List ℕ) (P0 T0 : List Stroke) → Spells (roomOf P0 T0) bs → Filling bs P0 T0 0 0 0 P0 T0
@@ -93,8 +93,14 @@ filling-none bs P0 T0 s =
     let f = lawful-fits room rs (s .1) in
     let h = lawful-room room rs (s .1) in
     record {
-      rs = rs; qs = rs; fits = f; bytes = s .2; left = sym (s .2); left-fits = f;
-      purges = table-none 3 rs P0 (h .0); tints = table-none 2 rs T0 (h .1)
+      rs = rs;
+      qs = rs;
+      fits = f;
+      bytes = s .2;
+      left = sym (s .2);
+      left-fits = f;
+      purges = table-none 3 rs P0 (h .0);
+      tints = table-none 2 rs T0 (h .1);
     }
 
 uncons : (qs : List Record) → 0 < length (written qs) → (r : Record) × (ss : List Record) × (qs ≡ r ∷ ss)
@@ -160,15 +166,19 @@ module _ (bs : List ℕ) (P0 T0 : List Stroke) (at p t : ℕ) (P T : List Stroke
 
   -- one record more
   pub fills-on : (b c : Bool) (n : ℕ) → eqb k 2 ≡ b → eqb k 3 ≡ c → n ≡ bodyIn bodies k
-    → Filling bs P0 T0 (at + (1 + n)) (cond c (p + 1) p) (cond b (t + 1) t) (cond c (set P p (stroke r)) P) (cond b (set T t (stroke r)) T)
+      → Filling bs P0 T0 (at + (1 + n)) (cond c (p + 1) p) (cond b (t + 1) t) (cond c (set P p (stroke r)) P) (cond b (set T t (stroke r)) T)
   fills-on b c n eb ec en = record {
-      rs = f .rs; qs = ss; fits = f .fits; bytes = f .bytes; left-fits = fits-here .1;
-      left =
+    rs = f .rs;
+    qs = ss;
+    fits = f .fits;
+    bytes = f .bytes;
+    left-fits = fits-here .1;
+    left =
         (let e : at + (1 + n) ≡ at + 1 + bodyIn bodies (kind r) = omega (arith, en, ap (bodyIn bodies) kind-is) in
         ap (λ (i : ℕ). drop i bs) e ∙ (sym (drop-drop (bodyIn bodies (kind r)) (at + 1) bs) ∙ (ap (drop (bodyIn bodies (kind r))) behind ∙ drop-at (body r) (written ss) (bodyIn bodies (kind r)) (body-length r))));
-      purges = table-on c 3 (f .rs) r ss P0 P p (ap (λ (j : ℕ). eqb j 3) (sym kind-is) ∙ ec) purges-here;
-      tints = table-on b 2 (f .rs) r ss T0 T t (ap (λ (j : ℕ). eqb j 2) (sym kind-is) ∙ eb) tints-here
-    }
+    purges = table-on c 3 (f .rs) r ss P0 P p (ap (λ (j : ℕ). eqb j 3) (sym kind-is) ∙ ec) purges-here;
+    tints = table-on b 2 (f .rs) r ss T0 T t (ap (λ (j : ℕ). eqb j 2) (sym kind-is) ∙ eb) tints-here;
+  }
 
 none-left : (qs : List Record) → written qs ≡ [] → qs ≡ []
 none-left [] e = refl
@@ -176,9 +186,10 @@ none-left (r ∷ qs) e = absurd (omega (arith, ap length e))
 
 -- all is written
 pub fills-all : (bs : List ℕ) (P0 T0 : List Stroke) (at p t : ℕ) (P T : List Stroke) → Filling bs P0 T0 at p t P T → length bs ≤ at
-  → (rs : List Record) → All Fits rs → written rs ≡ bs → (P ≡ filled 3 rs P0) × (T ≡ filled 2 rs T0)
+    → (rs : List Record) → All Fits rs → written rs ≡ bs → (P ≡ filled 3 rs P0) × (T ≡ filled 2 rs T0)
 fills-all bs P0 T0 at p t P T f h rs g w =
     let e : f .rs ≡ rs = unique (f .rs) rs (f .fits) g (f .bytes ∙ sym w) in
-    let n : f .qs ≡ [] = none-left (f .qs) (sym (f .left) ∙ drop-all at bs h) in
-    (ap (λ (qs : List Record). sets P p (strokes 3 qs)) (sym n) ∙ (f .purges .fills ∙ ap (λ (x : List Record). filled 3 x P0) e),
-     ap (λ (qs : List Record). sets T t (strokes 2 qs)) (sym n) ∙ (f .tints .fills ∙ ap (λ (x : List Record). filled 2 x T0) e))
+    let n : f .qs ≡ [] = none-left (f .qs) (sym (f .left) ∙ drop-all at bs h) in (
+      ap (λ (qs : List Record). sets P p (strokes 3 qs)) (sym n) ∙ (f .purges .fills ∙ ap (λ (x : List Record). filled 3 x P0) e),
+      ap (λ (qs : List Record). sets T t (strokes 2 qs)) (sym n) ∙ (f .tints .fills ∙ ap (λ (x : List Record). filled 2 x T0) e),
+    )

@@ -46,19 +46,24 @@ within table bs ps ps′ ts ts′ l h =
 
 module _ (bs : List ℕ) (ps ts : List Stroke) where
   pub accepts : (ps′ ts′ : List Stroke) (l : Loaded) → Judged bodies (roomOf ps ts) bs (Ok l)
-    → ((rs : List Record) → All Fits rs → written rs ≡ bs → (ps′ ≡ filled 3 rs ps) × (ts′ ≡ filled 2 rs ts)) → Loading bodies bs ps ps′ ts ts′ (Ok l)
+      → ((rs : List Record) → All Fits rs → written rs ≡ bs → (ps′ ≡ filled 3 rs ps) × (ts′ ≡ filled 2 rs ts)) → Loading bodies bs ps ps′ ts ts′ (Ok l)
   accepts ps′ ts′ l j fill =
       let room = roomOf ps ts in
       record {
         lawful = λ _. (j .0, j .1, j .2);
         loads = λ rs law w.
-          let f = lawful-fits room rs law in
-          let t = fill rs f w in
-          record { loaded = l; answers = refl; purges = t .0; tints = t .1;
-            says = subst (λ (z : List Record). Says z l) (unique (j .0) rs (lawful-fits room (j .0) (j .1)) f (j .2 ∙ sym w)) (j .3) };
+            let f = lawful-fits room rs law in
+            let t = fill rs f w in
+            record {
+              loaded = l;
+              answers = refl;
+              purges = t .0;
+              tints = t .1;
+              says = subst (λ (z : List Record). Says z l) (unique (j .0) rs (lawful-fits room (j .0) (j .1)) f (j .2 ∙ sym w)) (j .3);
+            };
         why = λ e h. absurd (ok-err h);
         when = λ e h. absurd (never room bs e (j .0) h (j .1) (j .2));
-        kept = λ h. absurd (true≢false h)
+        kept = λ h. absurd (true≢false h);
       }
 
   pub refuses : (e : CanFault) → Judged bodies (roomOf ps ts) bs (Err e) → Loading bodies bs ps ps ts ts (Err e)
@@ -69,5 +74,5 @@ module _ (bs : List ℕ) (ps ts : List Stroke) where
         loads = λ rs law w. absurd (never room bs e rs j law w);
         why = λ f h. subst (Refuses bodies room bs) (err-same e f h) j;
         when = λ f h. ap errL (only room bs e f j h);
-        kept = λ _. (refl, refl)
+        kept = λ _. (refl, refl);
       }

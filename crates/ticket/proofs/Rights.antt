@@ -61,7 +61,7 @@ stands-mid room rs r ss h =
       fresh = grind (arith, tells);
       fits = all-mid Fits rs r ss (h .fits);
       allowed = all-mid Allowed rs r ss (h .allowed);
-      free = grind (arith, tells)
+      free = grind (arith, tells);
     }
 
 pub right-none : (room : Room) → Right room []
@@ -89,7 +89,7 @@ right-push room rs r h s n =
       allowed = all-push Allowed rs r (h .allowed) (s .allowed);
       once = λ k lo hi. let o = h .once k lo hi in let a = count-append k rs (r ∷ []) in grind (arith, tells);
       purges = grind (arith, tells);
-      tints = grind (arith, tells)
+      tints = grind (arith, tells);
     }
 
 place-end : (rs : List Record) → Headed rs → rs ≢ [] → misplaced (λ k. count k rs) 15 ≡ false
@@ -112,17 +112,21 @@ fields-off (End n) f a = (refl, refl)
 
 -- nothing is wrong where a record stands that may stand there; an end has the right number and is the last
 pub fine : (room : Room) (c : ℕ → ℕ) (p : ℕ) (r : Record) (zs : List ℕ) → Stands room c r
-  → (kind r ≡ 15 → (number 256 (body r) ≡ c 2 + c 3) × (length zs ≡ 0)) → wrong bodies room c p (kind r ∷ (body r ++ zs)) ≡ None
+    → (kind r ≡ 15 → (number 256 (body r) ≡ c 2 + c 3) × (length zs ≡ 0)) → wrong bodies room c p (kind r ∷ (body r ++ zs)) ≡ None
 fine room c p r zs s e =
     let o = fields-off r (s .fits) (s .allowed) in
     let l = body-length r in
     let some = body-some r .0 in
     let long = length-append (body r) zs in
-    let off : All Off (faults bodies room c p (kind r) (body r ++ zs) (body r)) =
-      (ne-eqb (bodyIn bodies (kind r)) 0 (λ z. omega arith), (le-ltb (length (body r ++ zs)) (bodyIn bodies (kind r)) (omega arith),
-      (s .place, (s .fresh, (o .0, (o .1, (s .free, (grind (arith, tells), tt)))))))) in
+    let off : All Off (faults bodies room c p (kind r) (body r ++ zs) (body r)) = (
+      ne-eqb (bodyIn bodies (kind r)) 0 (λ z. omega arith),
+      (
+        le-ltb (length (body r ++ zs)) (bodyIn bodies (kind r)) (omega arith),
+        (s .place, (s .fresh, (o .0, (o .1, (s .free, (grind (arith, tells), tt)))))),
+      ),
+    ) in
     let last : followed bodies (kind r) (body r ++ zs) ≡ false = grind (arith, tells) in
     let z = after bodies p (kind r) (body r ++ zs) in
     let F : List ℕ → List (Bool × CanFault) = faults bodies room c p (kind r) (body r ++ zs) in
-    ap (λ (xs : List ℕ). firstOf (F xs ++ (z ∷ []))) (take-at (body r) zs (bodyIn bodies (kind r)) l) 
+    ap (λ (xs : List ℕ). firstOf (F xs ++ (z ∷ []))) (take-at (body r) zs (bodyIn bodies (kind r)) l)
     ∙ (skip (F (body r)) (z ∷ []) off ∙ ap (λ (b : Bool). cond b (Some (z .1)) None) last)

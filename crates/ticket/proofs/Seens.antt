@@ -58,30 +58,37 @@ module _ (s : Seen) (rs : List Record) (r : Record) (h : Holds s rs) where
       let a = count-append k rs (r ∷ []) in
       let b = h .counts k in
       elim (cases-eq (kind r) k) [
-        inl e ↦
-          (let one : is k r ≡ 1 = ap (λ (t : Bool). cond t 1 0) (eq-eqb (kind r) k e) in
-          ap (λ (j : ℕ). getD (set (s .counts) j (getD (s .counts) j 0 + 1)) k 0) e ∙ (getD-set-same (s .counts) k (tally s k + 1) 0 (omega (arith, e, body-some r .1, h .kinds)) ∙ omega arith))
-      | inr n ↦
-          (let none : is k r ≡ 0 = ap (λ (t : Bool). cond t 1 0) (ne-eqb (kind r) k n) in
-          getD-set-other (s .counts) (kind r) k (tally s (kind r) + 1) 0 (λ e. n (sym e)) ∙ omega arith) ]
+        | inl e ↦
+            (let one : is k r ≡ 1 = ap (λ (t : Bool). cond t 1 0) (eq-eqb (kind r) k e) in
+            ap (λ (j : ℕ). getD (set (s .counts) j (getD (s .counts) j 0 + 1)) k 0) e ∙ (getD-set-same (s .counts) k (tally s k + 1) 0 (omega (arith, e, body-some r .1, h .kinds)) ∙ omega arith))
+        | inr n ↦
+            (let none : is k r ≡ 0 = ap (λ (t : Bool). cond t 1 0) (ne-eqb (kind r) k n) in
+            getD-set-other (s .counts) (kind r) k (tally s (kind r) + 1) 0 (λ e. n (sym e)) ∙ omega arith)
+      ]
 
   follows : (f : Record → ℕ) (k d x : ℕ) → x ≡ said f k d rs → cond (eqb (kind r) k) (f r) x ≡ said f k d (rs ++ (r ∷ []))
   follows f k d x e = ap (λ (y : ℕ). cond (eqb (kind r) k) (f r) y) e ∙ sym (said-push f k d rs r)
 
   pub holds-push : Holds (noted s r) (rs ++ (r ∷ []))
   holds-push = record {
-      counts = counted;
-      kinds = length-set (s .counts) (kind r) (tally s (kind r) + 1) ∙ h .kinds;
-      can = follows canNumber 1 0 (s .can) (h .can);
-      size = follows says 1 0 (s .size) (h .size);
-      resume = follows says 4 0 (s .resume) (h .resume);
-      limit = follows says 5 18446744073709551615 (s .limit) (h .limit);
-      stride = stride-push r (s .stride) ∙ follows says 6 1 (s .stride .steps) (h .stride);
-      first = follows says 7 0 (s .first) (h .first)
-    }
+    counts = counted;
+    kinds = length-set (s .counts) (kind r) (tally s (kind r) + 1) ∙ h .kinds;
+    can = follows canNumber 1 0 (s .can) (h .can);
+    size = follows says 1 0 (s .size) (h .size);
+    resume = follows says 4 0 (s .resume) (h .resume);
+    limit = follows says 5 18446744073709551615 (s .limit) (h .limit);
+    stride = stride-push r (s .stride) ∙ follows says 6 1 (s .stride .steps) (h .stride);
+    first = follows says 7 0 (s .first) (h .first);
+  }
 
 pub holds-says : (s : Seen) (rs : List Record) → Holds s rs → Says rs (answered s)
 holds-says s rs h = record {
-    purges = h .counts 3; tints = h .counts 2; can = h .can; size = h .size;
-    resume = h .resume; limit = h .limit; stride = h .stride; first = h .first
-  }
+  purges = h .counts 3;
+  tints = h .counts 2;
+  can = h .can;
+  size = h .size;
+  resume = h .resume;
+  limit = h .limit;
+  stride = h .stride;
+  first = h .first;
+}

@@ -50,12 +50,12 @@ module _ (table : List ℕ) (room : Room) (c : ℕ → ℕ) (p k : ℕ) (zs : Li
   ordering n = then (ordered c p k) (λ _. fielding n)
 
   pub passes : (n : ℕ) (r : Entry) → okN n ≡ placed (framed table k zs) p → okU tt ≡ ordered c p k → okE r ≡ placed (mapErr Field (fielded k (take n zs))) p
-    → admitted room c p r ≡ stepped table room c p k zs
+      → admitted room c p r ≡ stepped table room c p k zs
   passes n r a b d =
       sym (ap (λ (x : Result ℕ RecordFault). then (mapErr (λ f. Record f p) x) ordering) (under (λ f. (f, p)) (framed table k zs) n a)
       ∙ (ap (λ (x : Result (Unit {0}) CanFault). then x (λ _. fielding n)) (sym b)
       ∙ ap (λ (x : Result Entry RecordFault). then (mapErr (λ f. Record f p) x) (λ q. admitted room c p q))
-        (under (λ f. (f, p)) (mapErr Field (fielded k (take n zs))) r d)))
+      (under (λ f. (f, p)) (mapErr Field (fielded k (take n zs))) r d)))
 
 -- a check that found nothing
 abbrev pub Off : Bool × CanFault → Type 0
@@ -127,21 +127,23 @@ module _ (room : Room) (c : ℕ → ℕ) (p k : ℕ) (zs : List ℕ) where
   laddered =
       both (λ (x : Result ℕ RecordFault). then (mapErr (λ f. Record f p) x) (ordering bodies room c p k zs)) (unknown bodies k) (cut bodies k zs) _ _ _
       ∙ ap (λ (x : Result Entry CanFault). cond (unknown bodies k) (errE (canFault 3 p)) (cond (cut bodies k zs) (errE (canFault 4 p)) x))
-        (both (λ (x : Result (Unit {0}) CanFault). then x (λ _. fielding bodies room c p k zs (bodyIn bodies k))) (misplaced c k) (twice c k) _ _ _
-        ∙ ap (λ (x : Result Entry CanFault). cond (misplaced c k) (errE (canFault 5 p)) (cond (twice c k) (errE (canFault 6 p)) x))
-          (both (λ (x : Result Entry FieldFault). then (mapErr (λ f. Record f p) (mapErr Field x)) (λ r. admitted room c p r)) (high k xs) (still k xs) _ _ _))
+      (both (λ (x : Result (Unit {0}) CanFault). then x (λ _. fielding bodies room c p k zs (bodyIn bodies k))) (misplaced c k) (twice c k) _ _ _
+      ∙ ap (λ (x : Result Entry CanFault). cond (misplaced c k) (errE (canFault 5 p)) (cond (twice c k) (errE (canFault 6 p)) x))
+      (both (λ (x : Result Entry FieldFault). then (mapErr (λ f. Record f p) (mapErr Field x)) (λ r. admitted room c p r)) (high k xs) (still k xs) _ _ _))
 
   -- the record at place p has a first fault, or it is right
   pub outcome : Under 256 zs
-    → ((e : CanFault) × (stepped bodies room c p k zs ≡ errE e) × ((ws : List (Bool × CanFault)) → firstOf (faults bodies room c p k zs xs ++ ws) ≡ Some e))
-    ⊎ ((stepped bodies room c p k zs ≡ Ok (recordOf k xs)) × All Off (faults bodies room c p k zs xs) × Coded k xs (recordOf k xs))
+      → ((e : CanFault) × (stepped bodies room c p k zs ≡ errE e) × ((ws : List (Bool × CanFault)) → firstOf (faults bodies room c p k zs xs ++ ws) ≡ Some e))
+      ⊎ ((stepped bodies room c p k zs ≡ Ok (recordOf k xs)) × All Off (faults bodies room c p k zs xs) × Coded k xs (recordOf k xs))
   outcome u = elim (climb six after-six) [
-        inl q ↦ inl (q .0, laddered ∙ q .1, λ ws. q .2 (last ++ ws))
-      | inr q ↦
-          (let o = q .1 in
-          let n : Known k = known k (omega (arith, eqb-false (bodyIn bodies k) 0 (o .0))) in
-          let l : length xs ≡ bodyIn bodies k = length-take-le (bodyIn bodies k) zs (ltb-false (length zs) (bodyIn bodies k) (o .1 .0)) in
-          let d = encode k n xs l (all-take (λ x. x < 256) (bodyIn bodies k) zs u) (o .1 .1 .1 .1 .0) (o .1 .1 .1 .1 .1 .0) in
-          elim (climb last (Ok (recordOf k xs))) [
-            inl t ↦ inl (t .0, laddered ∙ (q .0 ∙ (admits room c p k n xs ∙ t .1)), λ ws. skip six (last ++ ws) o ∙ t .2 ws)
-          | inr t ↦ inr (laddered ∙ (q .0 ∙ (admits room c p k n xs ∙ t .0)), all-append Off six last o (t .1), d) ]) ]
+    | inl q ↦ inl (q .0, laddered ∙ q .1, λ ws. q .2 (last ++ ws))
+    | inr q ↦
+        (let o = q .1 in
+        let n : Known k = known k (omega (arith, eqb-false (bodyIn bodies k) 0 (o .0))) in
+        let l : length xs ≡ bodyIn bodies k = length-take-le (bodyIn bodies k) zs (ltb-false (length zs) (bodyIn bodies k) (o .1 .0)) in
+        let d = encode k n xs l (all-take (λ x. x < 256) (bodyIn bodies k) zs u) (o .1 .1 .1 .1 .0) (o .1 .1 .1 .1 .1 .0) in
+        elim (climb last (Ok (recordOf k xs))) [
+          | inl t ↦ inl (t .0, laddered ∙ (q .0 ∙ (admits room c p k n xs ∙ t .1)), λ ws. skip six (last ++ ws) o ∙ t .2 ws)
+          | inr t ↦ inr (laddered ∙ (q .0 ∙ (admits room c p k n xs ∙ t .0)), all-append Off six last o (t .1), d)
+        ])
+  ]

@@ -72,9 +72,13 @@ module _ (room : Room) (bs : List ℕ) (at : ℕ) (s : Seen) (f : Sofar room bs 
 
   broken : length bs ≤ 32768 → (e : CanFault) → wrong bodies room (tally s) at (drop at bs) ≡ Some e → Broken bodies room bs e
   broken l e w = record {
-      short = l; rs = f .rs; ys = drop at bs; right = f .right; bytes = f .bytes;
-      wrong = sym (ap₂ (λ (c : ℕ → ℕ) (p : ℕ). wrong bodies room c p (drop at bs)) counting (f .place)) ∙ w
-    }
+    short = l;
+    rs = f .rs;
+    ys = drop at bs;
+    right = f .right;
+    bytes = f .bytes;
+    wrong = sym (ap₂ (λ (c : ℕ → ℕ) (p : ℕ). wrong bodies room c p (drop at bs)) counting (f .place)) ∙ w;
+  }
 
   -- the ticket ends with no end
   pub no-end : length bs ≤ 32768 → length bs ≤ at → Broken bodies room bs (canFault 11 (length bs))
@@ -106,14 +110,15 @@ module _ (room : Room) (bs : List ℕ) (at : ℕ) (s : Seen) (f : Sofar room bs 
     behind = after bodies at k zs
 
     outcome-here : ((e : CanFault) × (stepped bodies room (tally s) at k zs ≡ errE e) × ((ws : List (Bool × CanFault)) → firstOf (here-faults ++ ws) ≡ Some e))
-      ⊎ ((stepped bodies room (tally s) at k zs ≡ okE (recordOf k (take (bodyIn bodies k) zs))) × All Off here-faults × Coded k (take (bodyIn bodies k) zs) (recordOf k (take (bodyIn bodies k) zs)))
+        ⊎ ((stepped bodies room (tally s) at k zs ≡ okE (recordOf k (take (bodyIn bodies k) zs))) × All Off here-faults × Coded k (take (bodyIn bodies k) zs) (recordOf k (take (bodyIn bodies k) zs)))
     outcome-here = outcome room (tally s) at k zs (all-drop (λ d. d < 256) (at + 1) bs u)
 
     -- a fault of the record here
     pub stops : (e : CanFault) → Answers (Err e) → Broken bodies room bs e
     stops e q = elim outcome-here [
-        inl o ↦ (let same : o .0 ≡ e = err-same (o .1) (answers (Err e) q) in broken l e (ap (wrong bodies room (tally s) at) here ∙ (o .2 (behind ∷ []) ∙ ap (λ (x : CanFault). Some x) same)))
-      | inr o ↦ absurd (ok-err (o .0) (answers (Err e) q)) ]
+      | inl o ↦ (let same : o .0 ≡ e = err-same (o .1) (answers (Err e) q) in broken l e (ap (wrong bodies room (tally s) at) here ∙ (o .2 (behind ∷ []) ∙ ap (λ (x : CanFault). Some x) same)))
+      | inr o ↦ absurd (ok-err (o .0) (answers (Err e) q))
+    ]
 
     module _ (r : Record) (q : Answers (Ok r)) where
       abbrev pub next : ℕ
@@ -122,8 +127,9 @@ module _ (room : Room) (bs : List ℕ) (at : ℕ) (s : Seen) (f : Sofar room bs 
       -- the record here has no fault, and is written here
       passed : All Off here-faults × Coded k (take (bodyIn bodies k) zs) r
       passed = elim outcome-here [
-          inl o ↦ absurd (ok-err (answers (Ok r) q) (o .1))
-        | inr o ↦ (o .1, subst (Coded k (take (bodyIn bodies k) zs)) (ok-same (o .0) (answers (Ok r) q)) (o .2)) ]
+        | inl o ↦ absurd (ok-err (answers (Ok r) q) (o .1))
+        | inr o ↦ (o .1, subst (Coded k (take (bodyIn bodies k) zs)) (ok-same (o .0) (answers (Ok r) q)) (o .2))
+      ]
 
       stands : Stands room (λ j. count j (f .rs)) r
       stands =
@@ -134,7 +140,8 @@ module _ (room : Room) (bs : List ℕ) (at : ℕ) (s : Seen) (f : Sofar room bs 
             fresh = ap (twice (tally s)) (sym e) ∙ o .1 .0;
             fits = passed .1 .fits;
             allowed = passed .1 .allowed;
-            free = ap (full room (tally s)) (sym e) ∙ o .1 .1 .1 .1 .0 })
+            free = ap (full room (tally s)) (sym e) ∙ o .1 .1 .1 .1 .0;
+          })
 
       next-is : at + 1 + bodyIn bodies k ≡ next
       next-is = ap (λ (j : ℕ). at + 1 + bodyIn bodies j) (sym (passed .1 .kind-is)) ∙ omega arith
@@ -164,7 +171,7 @@ module _ (room : Room) (bs : List ℕ) (at : ℕ) (s : Seen) (f : Sofar room bs 
       pub spills : kind r ≡ 15 → next < length bs → Broken bodies room bs (canFault 10 next)
       spills e n =
           let t : followed bodies k zs ≡ true =
-            ap (λ (j : ℕ). followed bodies j zs) (sym (passed .1 .kind-is) ∙ e) ∙ lt-ltb 2 (length zs) (omega (arith, n, length-drop (at + 1) bs, ap (bodyIn bodies) e)) in
+          ap (λ (j : ℕ). followed bodies j zs) (sym (passed .1 .kind-is) ∙ e) ∙ lt-ltb 2 (length zs) (omega (arith, n, length-drop (at + 1) bs, ap (bodyIn bodies) e)) in
           broken l (canFault 10 next)
           (ap (wrong bodies room (tally s) at) here ∙ (skip here-faults (behind ∷ []) (passed .0)
           ∙ (ap (λ (b : Bool). cond b (Some (behind .1)) None) t ∙ ap (λ (p : ℕ). Some (canFault 10 p)) next-is)))
@@ -185,9 +192,15 @@ module _ (room : Room) (bs : List ℕ) (at : ℕ) (s : Seen) (f : Sofar room bs 
       pub ends : (m : ℕ) → r ≡ End m → length bs ≤ next → (rs : List Record) × Lawful room rs × (written rs ≡ bs) × Says rs (answered (noted s r))
       ends m e n =
           let rs : List Record = f .rs ++ (r ∷ []) in
-          let w : written rs ≡ bs = sym (bytes-on ∙ (ap (λ (ys : List ℕ). written rs ++ ys) (drop-all next bs n) ∙ append-nil (written rs))) in
-          (rs, record {
-            inner = f .rs; right = f .right; some = some (ap kind e);
-            ends = ap (λ (x : Record). f .rs ++ (x ∷ [])) (e ∙ ap (λ (x : ℕ). End x) (total m e));
-            short = omega (arith, ap length w) },
-          w, holds-says (noted s r) rs (holds-push s (f .rs) r (f .holds)))
+          let w : written rs ≡ bs = sym (bytes-on ∙ (ap (λ (ys : List ℕ). written rs ++ ys) (drop-all next bs n) ∙ append-nil (written rs))) in (
+            rs,
+            record {
+              inner = f .rs;
+              right = f .right;
+              some = some (ap kind e);
+              ends = ap (λ (x : Record). f .rs ++ (x ∷ [])) (e ∙ ap (λ (x : ℕ). End x) (total m e));
+              short = omega (arith, ap length w);
+            },
+            w,
+            holds-says (noted s r) rs (holds-push s (f .rs) r (f .holds)),
+          )

@@ -48,14 +48,14 @@ goes-on room rs ss ys zs l h =
     let h′ : Right room (rs ++ (l .next ∷ l .rest)) = subst (Right room) (l .list) h in
     ap (wrongAt room rs) (l .left)
     ∙ fine room (λ k. count k rs) (length (written rs)) (l .next) (written (l .rest) ++ zs) (stands-mid room rs (l .next) (l .rest) h′)
-      (λ e. absurd (no-end rs (l .next) (l .rest) (h′ .unended) e))
+    (λ e. absurd (no-end rs (l .next) (l .rest) (h′ .unended) e))
 
 -- the number of an end in a ticket that is not too long fits its two bytes
 pub end-fits : (room : Room) (ss : List Record) (l : Lawful room ss) → count 2 (l .inner) + count 3 (l .inner) < 2 ^ 16
 end-fits room ss l =
     let n : ℕ = count 2 (l .inner) + count 3 (l .inner) in
     let s : length (written (l .inner)) < 32768 =
-      omega (arith, l .short, ap (λ (zs : List Record). length (written zs)) (l .ends), ap length (written-append (l .inner) (End n ∷ [])), length-append (written (l .inner)) (written (End n ∷ []))) in
+    omega (arith, l .short, ap (λ (zs : List Record). length (written zs)) (l .ends), ap length (written-append (l .inner) (End n ∷ [])), length-append (written (l .inner)) (written (End n ∷ []))) in
     omega (arith, count-le 2 (l .inner), count-le 3 (l .inner))
 
 -- nor where the last record is the right end
@@ -72,9 +72,10 @@ never room bs e ss (inr b) l w =
     let n : ℕ = count 2 (l .inner) + count 3 (l .inner) in
     let same : written (b .rs) ++ b .ys ≡ written (l .inner) ++ (15 ∷ (big 2 n ++ [])) = sym (b .bytes) ∙ (sym w ∙ (ap written (l .ends) ∙ written-append (l .inner) (End n ∷ []))) in
     elim (fork (b .rs) (l .inner) (b .ys) (15 ∷ (big 2 n ++ [])) (b .right .fits) (l .right .fits) same) [
-      inl q ↦ some-none (wrongAt room (b .rs) (b .ys)) e (ap₂ (wrongAt room) (q .0) (q .1) ∙ at-end room ss l) (b .wrong)
-    | inr (inl q) ↦ some-none (wrongAt room (b .rs) (b .ys)) e (goes-on room (b .rs) (l .inner) (b .ys) (15 ∷ (big 2 n ++ [])) q (l .right)) (b .wrong)
-    | inr (inr q) ↦ no-end (l .inner) (q .next) (q .rest) (ap (count 15) (sym (q .list)) ∙ b .right .unended) (ap (λ (xs : List ℕ). getD xs 0 0) (sym (q .left))) ]
+      | inl q ↦ some-none (wrongAt room (b .rs) (b .ys)) e (ap₂ (wrongAt room) (q .0) (q .1) ∙ at-end room ss l) (b .wrong)
+      | inr (inl q) ↦ some-none (wrongAt room (b .rs) (b .ys)) e (goes-on room (b .rs) (l .inner) (b .ys) (15 ∷ (big 2 n ++ [])) q (l .right)) (b .wrong)
+      | inr (inr q) ↦ no-end (l .inner) (q .next) (q .rest) (ap (count 15) (sym (q .list)) ∙ b .right .unended) (ap (λ (xs : List ℕ). getD xs 0 0) (sym (q .left)))
+    ]
 
 -- and it is refused for one reason at one place
 pub only : (room : Room) (bs : List ℕ) (e f : CanFault) → Refuses bodies room bs e → Refuses bodies room bs f → e ≡ f
@@ -83,6 +84,7 @@ only room bs e f (inl q) (inr d) = absurd (omega (arith, q .0, d .short))
 only room bs e f (inr b) (inl r) = absurd (omega (arith, r .0, b .short))
 only room bs e f (inr b) (inr d) =
     elim (fork (b .rs) (d .rs) (b .ys) (d .ys) (b .right .fits) (d .right .fits) (sym (b .bytes) ∙ d .bytes)) [
-      inl q ↦ some-same (wrongAt room (d .rs) (d .ys)) e f (sym (ap₂ (wrongAt room) (q .0) (q .1)) ∙ b .wrong) (d .wrong)
-    | inr (inl q) ↦ absurd (some-none (wrongAt room (b .rs) (b .ys)) e (goes-on room (b .rs) (d .rs) (b .ys) (d .ys) q (d .right)) (b .wrong))
-    | inr (inr q) ↦ absurd (some-none (wrongAt room (d .rs) (d .ys)) f (goes-on room (d .rs) (b .rs) (d .ys) (b .ys) q (b .right)) (d .wrong)) ]
+      | inl q ↦ some-same (wrongAt room (d .rs) (d .ys)) e f (sym (ap₂ (wrongAt room) (q .0) (q .1)) ∙ b .wrong) (d .wrong)
+      | inr (inl q) ↦ absurd (some-none (wrongAt room (b .rs) (b .ys)) e (goes-on room (b .rs) (d .rs) (b .ys) (d .ys) q (d .right)) (b .wrong))
+      | inr (inr q) ↦ absurd (some-none (wrongAt room (d .rs) (d .ys)) f (goes-on room (d .rs) (b .rs) (d .ys) (b .ys) q (b .right)) (d .wrong))
+    ]

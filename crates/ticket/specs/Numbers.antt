@@ -50,8 +50,8 @@ recordFault n = cond (eqb n 3) Unknown (cond (eqb n 4) Cut (Field (fieldFault n)
 
 abbrev pub canFault : ℕ → ℕ → CanFault
 canFault n p =
-  cond (eqb n 2) (TooLong p) (cond (eqb n 5) (Misplaced p) (cond (eqb n 6) (Twice p) (cond (eqb n 8) (Full p)
-  (cond (eqb n 9) (Count p) (cond (eqb n 10) (After p) (cond (eqb n 11) (NoEnd p) (Record (recordFault n) p)))))))
+    cond (eqb n 2) (TooLong p) (cond (eqb n 5) (Misplaced p) (cond (eqb n 6) (Twice p) (cond (eqb n 8) (Full p)
+    (cond (eqb n 9) (Count p) (cond (eqb n 10) (After p) (cond (eqb n 11) (NoEnd p) (Record (recordFault n) p)))))))
 
 -- a fault is the one of its number at its place
 abbrev pub Numbered : Type 0

@@ -49,14 +49,14 @@ strideIn (suc n) = record { steps = suc n; some = suc-le-suc zero-le }
 -- the record of a kind and a body
 abbrev pub recordOf : ℕ → List ℕ → Entry
 recordOf k xs =
-  cond (eqb k 1) (Head (numberIn 0 4 xs) (numberIn 4 2 xs))
-  (cond (eqb k 2) (Tint (strokeIn xs))
-  (cond (eqb k 3) (Purge (strokeIn xs))
-  (cond (eqb k 4) (Resume (number 256 xs))
-  (cond (eqb k 5) (Limit (number 256 xs))
-  (cond (eqb k 6) (Every (strideIn (number 256 xs)))
-  (cond (eqb k 7) (First (getD xs 0 0))
-  (End (number 256 xs))))))))
+    cond (eqb k 1) (Head (numberIn 0 4 xs) (numberIn 4 2 xs))
+    (cond (eqb k 2) (Tint (strokeIn xs))
+    (cond (eqb k 3) (Purge (strokeIn xs))
+    (cond (eqb k 4) (Resume (number 256 xs))
+    (cond (eqb k 5) (Limit (number 256 xs))
+    (cond (eqb k 6) (Every (strideIn (number 256 xs)))
+    (cond (eqb k 7) (First (getD xs 0 0))
+    (End (number 256 xs))))))))
 
 abbrev pub framed : List ℕ → ℕ → List ℕ → Result ℕ RecordFault
 framed table k zs = cond (unknown table k) (Err (recordFault 3)) (cond (cut table k zs) (Err (recordFault 4)) (Ok (bodyIn table k)))
@@ -69,19 +69,25 @@ fielded k xs = cond (high k xs) (Err (fieldFault 7)) (cond (still k xs) (Err (fi
 
 abbrev pub admitted : Room → (ℕ → ℕ) → ℕ → Entry → Result Entry CanFault
 admitted room c p r =
-  cond (full room c (kind r)) (Err (canFault 8 p)) (cond (eqb (kind r) 15 && not (eqb (says r) (c 2 + c 3))) (Err (canFault 9 p)) (Ok r))
+    cond (full room c (kind r)) (Err (canFault 8 p)) (cond (eqb (kind r) 15 && not (eqb (says r) (c 2 + c 3))) (Err (canFault 9 p)) (Ok r))
 
 abbrev pub stepped : List ℕ → Room → (ℕ → ℕ) → ℕ → ℕ → List ℕ → Result Entry CanFault
 stepped table room c p k zs =
-  then (mapErr (λ f. Record f p) (framed table k zs)) (λ n.
-  then (ordered c p k) (λ _.
-  then (mapErr (λ f. Record f p) (mapErr Field (fielded k (take n zs)))) (λ r. admitted room c p r)))
+    then (mapErr (λ f. Record f p) (framed table k zs)) (λ n.
+    then (ordered c p k) (λ _.
+    then (mapErr (λ f. Record f p) (mapErr Field (fielded k (take n zs)))) (λ r. admitted room c p r)))
 
 -- before the first record
 abbrev pub nothing : Seen
 nothing = record {
-    counts = replicate 16 0; can = 0; size = 0; resume = 0; limit = 18446744073709551615; stride = oneStride; first = 0
-  }
+  counts = replicate 16 0;
+  can = 0;
+  size = 0;
+  resume = 0;
+  limit = 18446744073709551615;
+  stride = oneStride;
+  first = 0;
+}
 
 abbrev pub strideOr : Entry → Stride → Stride
 strideOr (Head c n) d = d
@@ -96,17 +102,23 @@ strideOr (End n) d = d
 -- what has been seen after one record more
 abbrev pub noted : Seen → Entry → Seen
 noted s r = record {
-    counts = set (s .counts) (kind r) (getD (s .counts) (kind r) 0 + 1);
-    can = cond (eqb (kind r) 1) (canNumber r) (s .can);
-    size = cond (eqb (kind r) 1) (says r) (s .size);
-    resume = cond (eqb (kind r) 4) (says r) (s .resume);
-    limit = cond (eqb (kind r) 5) (says r) (s .limit);
-    stride = strideOr r (s .stride);
-    first = cond (eqb (kind r) 7) (says r) (s .first)
-  }
+  counts = set (s .counts) (kind r) (getD (s .counts) (kind r) 0 + 1);
+  can = cond (eqb (kind r) 1) (canNumber r) (s .can);
+  size = cond (eqb (kind r) 1) (says r) (s .size);
+  resume = cond (eqb (kind r) 4) (says r) (s .resume);
+  limit = cond (eqb (kind r) 5) (says r) (s .limit);
+  stride = strideOr r (s .stride);
+  first = cond (eqb (kind r) 7) (says r) (s .first);
+}
 
 abbrev pub answered : Seen → Loaded
 answered s = record {
-    purges = getD (s .counts) 3 0; tints = getD (s .counts) 2 0; can = s .can; size = s .size;
-    resume = s .resume; limit = s .limit; stride = s .stride; first = s .first
-  }
+  purges = getD (s .counts) 3 0;
+  tints = getD (s .counts) 2 0;
+  can = s .can;
+  size = s .size;
+  resume = s .resume;
+  limit = s .limit;
+  stride = s .stride;
+  first = s .first;
+}

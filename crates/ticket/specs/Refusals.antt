@@ -57,10 +57,10 @@ followed table k zs = eqb k 15 && ltb (bodyIn table k) (length zs)
 -- the faults of the record at place p, in the order in which they are looked for
 abbrev pub faults : List ℕ → Room → (ℕ → ℕ) → ℕ → ℕ → List ℕ → List ℕ → List (Bool × CanFault)
 faults table room c p k zs xs =
-  (unknown table k, canFault 3 p) ∷ (cut table k zs, canFault 4 p)
-  ∷ (misplaced c k, canFault 5 p) ∷ (twice c k, canFault 6 p)
-  ∷ (high k xs, canFault 7 p) ∷ (still k xs, canFault 1 p)
-  ∷ (full room c k, canFault 8 p) ∷ (miscounted c k xs, canFault 9 p) ∷ []
+    (unknown table k, canFault 3 p) ∷ (cut table k zs, canFault 4 p)
+    ∷ (misplaced c k, canFault 5 p) ∷ (twice c k, canFault 6 p)
+    ∷ (high k xs, canFault 7 p) ∷ (still k xs, canFault 1 p)
+    ∷ (full room c k, canFault 8 p) ∷ (miscounted c k xs, canFault 9 p) ∷ []
 
 -- and last of all, with the place of the byte after the end
 abbrev pub after : List ℕ → ℕ → ℕ → List ℕ → Bool × CanFault

@@ -25,8 +25,8 @@ sample = Head 7 1000 ∷ Purge (pour 5 10) ∷ Tint (pour 1 100) ∷ Tint (pour 
 
 abbrev pub sampleBytes : List ℕ
 sampleBytes =
-  1 ∷ 0 ∷ 0 ∷ 0 ∷ 7 ∷ 3 ∷ 232 ∷ 3 ∷ 5 ∷ 0 ∷ 10 ∷ 2 ∷ 1 ∷ 0 ∷ 100 ∷ 2 ∷ 2 ∷ 0 ∷ 200
-  ∷ 6 ∷ 0 ∷ 0 ∷ 0 ∷ 0 ∷ 0 ∷ 0 ∷ 0 ∷ 2 ∷ 15 ∷ 0 ∷ 3 ∷ []
+    1 ∷ 0 ∷ 0 ∷ 0 ∷ 7 ∷ 3 ∷ 232 ∷ 3 ∷ 5 ∷ 0 ∷ 10 ∷ 2 ∷ 1 ∷ 0 ∷ 100 ∷ 2 ∷ 2 ∷ 0 ∷ 200
+    ∷ 6 ∷ 0 ∷ 0 ∷ 0 ∷ 0 ∷ 0 ∷ 0 ∷ 0 ∷ 2 ∷ 15 ∷ 0 ∷ 3 ∷ []
 
 abbrev pub sampleSays : Loaded
 sampleSays = record { purges = 1; tints = 2; can = 7; size = 1000; resume = 0; limit = 18446744073709551615; stride = everyTwo; first = 0 }

@@ -45,7 +45,16 @@ fn be64(bytes: &[u8]) -> u64
     requires { ⌜ length (now bytes) ≡ 8 ⌝ }
     ensures { λ r. ⌜ r ≡ number 256 (now (bytes .entry)) ⌝ }
 {
-    u64::from_be_bytes([bytes[0], bytes[1], bytes[2], bytes[3], bytes[4], bytes[5], bytes[6], bytes[7]])
+    u64::from_be_bytes([
+        bytes[0],
+        bytes[1],
+        bytes[2],
+        bytes[3],
+        bytes[4],
+        bytes[5],
+        bytes[6],
+        bytes[7],
+    ])
 }
 
 // A stroke's body.
@@ -53,7 +62,10 @@ pub fn stroke(body: &[u8]) -> Stroke
     requires { ⌜ length (now body) ≡ 3 ⌝ }
     ensures { λ r. ⌜ r ≡ strokeIn (now (body .entry)) ⌝ }
 {
-    Stroke { valve: body[0], volume: be16(&body[1..3]) }
+    Stroke {
+        valve: body[0],
+        volume: be16(&body[1..3]),
+    }
 }
 
 // How long the body is, of a record that is known and whole; `tail` is all that stands behind the kind byte.
@@ -118,7 +130,8 @@ impl Seen {
         match record {
             Record::Tint(_) if self.counts[0x02] >= room.tints => Err(CanFault::Full(place)),
             Record::Purge(_) if self.counts[0x03] >= room.purges => Err(CanFault::Full(place)),
-            Record::End(n) if n as usize != self.counts[0x02] + self.counts[0x03] => Err(CanFault::Count(place)),
+            Record::End(n) if n as usize != self.counts[0x02] + self.counts[0x03] =>
+                Err(CanFault::Count(place)),
             _ => Ok(record),
         }
     }

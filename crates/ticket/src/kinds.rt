@@ -14,7 +14,13 @@ pub const BODIES: [u8; 15] = [
     8, // 05 limit
     8, // 06 label stride
     1, // 07 first canister to stir
-    UNKNOWN, UNKNOWN, UNKNOWN, UNKNOWN, UNKNOWN, UNKNOWN, UNKNOWN,
+    UNKNOWN, // 08
+    UNKNOWN, // 09
+    UNKNOWN, // 0A
+    UNKNOWN, // 0B
+    UNKNOWN, // 0C
+    UNKNOWN, // 0D
+    UNKNOWN, // 0E
     2, // 0F end
 ];
 

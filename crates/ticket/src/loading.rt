@@ -73,10 +73,17 @@ fn fill(bytes: &[u8], purges: &mut [Stroke], tints: &mut [Stroke])
 // Loads a ticket: its purges and tints go to the starts of their tables, in ticket order, and the answer is what else it
 // says. A ticket that is not lawful is refused, and both tables stay as they were.
 pub fn load(bytes: &[u8], purges: &mut [Stroke], tints: &mut [Stroke]) -> Result<Loaded, CanFault>
-    ensures { λ r. do ⌜ Loading (← ⟦BODIES⟧ .entry) (now (bytes .entry))
-                            (now (purges .entry)) (now (purges .exit)) (now (tints .entry)) (now (tints .exit)) r ⌝ }
+    ensures { λ r. do
+      ⌜ Loading (← ⟦BODIES⟧ .entry) (now (bytes .entry))
+          (now (purges .entry)) (now (purges .exit)) (now (tints .entry)) (now (tints .exit)) r ⌝ }
 {
-    let loaded = judge(bytes, Room { purges: purges.len(), tints: tints.len() })?;
+    let loaded = judge(
+        bytes,
+        Room {
+            purges: purges.len(),
+            tints: tints.len(),
+        },
+    )?;
     fill(bytes, purges, tints);
     Ok(loaded)
 }

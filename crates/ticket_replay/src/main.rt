@@ -15,7 +15,10 @@ const CASE_HEAD: usize = 6;
 
 // What entry i of a table holds before a ticket is loaded: no ticket has such a valve.
 fn mark(i: usize) -> Stroke {
-    Stroke { valve: 200, volume: (i % 65536) as u16 }
+    Stroke {
+        valve: 200,
+        volume: (i % 65536) as u16,
+    }
 }
 
 fn reset(table: &mut [Stroke]) {
@@ -38,13 +41,20 @@ fn kept(table: &[Stroke], start: usize) -> bool {
 fn hash(table: &[Stroke], count: usize) -> u64 {
     let mut h = 0u64;
     for stroke in table.iter().take(count) {
-        let entry = u64::from(stroke.valve).wrapping_mul(65536).wrapping_add(u64::from(stroke.volume));
+        let entry = u64::from(stroke.valve)
+            .wrapping_mul(65536)
+            .wrapping_add(u64::from(stroke.volume));
         h = h.wrapping_mul(31).wrapping_add(entry);
     }
     h
 }
 
-fn show_loaded(rt: &LibcRuntime, loaded: &Loaded, purges: &[Stroke], tints: &[Stroke]) -> io::Result<()> {
+fn show_loaded(
+    rt: &LibcRuntime,
+    loaded: &Loaded,
+    purges: &[Stroke],
+    tints: &[Stroke],
+) -> io::Result<()> {
     let can = loaded.can;
     let size = loaded.size;
     let resume = loaded.resume;
@@ -55,15 +65,34 @@ fn show_loaded(rt: &LibcRuntime, loaded: &Loaded, purges: &[Stroke], tints: &[St
     let purge_hash = hash(purges, purge_count);
     let tint_count = loaded.tints;
     let tint_hash = hash(tints, tint_count);
-    let later = if kept(purges, purge_count) && kept(tints, tint_count) { "kept" } else { "changed" };
-    print!(rt, "loaded can {can} size {size} resume {resume} limit {limit} stride {stride} first {first} ")?;
-    println!(rt, "purges {purge_count} hash {purge_hash} tints {tint_count} hash {tint_hash}, later entries {later}")
+    let later = if kept(purges, purge_count) && kept(tints, tint_count) {
+        "kept"
+    } else {
+        "changed"
+    };
+    print!(
+        rt,
+        "loaded can {can} size {size} resume {resume} limit {limit} stride {stride} first {first} "
+    )?;
+    println!(
+        rt,
+        "purges {purge_count} hash {purge_hash} tints {tint_count} hash {tint_hash}, later entries {later}"
+    )
 }
 
-fn show_refused(rt: &LibcRuntime, fault: CanFault, purges: &[Stroke], tints: &[Stroke]) -> io::Result<()> {
+fn show_refused(
+    rt: &LibcRuntime,
+    fault: CanFault,
+    purges: &[Stroke],
+    tints: &[Stroke],
+) -> io::Result<()> {
     let number = fault.number();
     let place = fault.place();
-    let tables = if kept(purges, 0) && kept(tints, 0) { "kept" } else { "changed" };
+    let tables = if kept(purges, 0) && kept(tints, 0) {
+        "kept"
+    } else {
+        "changed"
+    };
     println!(rt, "refused {number} at {place}, tables {tables}")
 }
 
@@ -76,7 +105,12 @@ struct Case<'a> {
 }
 
 // Loads one ticket and prints the answer; true if it was loaded.
-fn replay(rt: &LibcRuntime, case: &Case, purges: &mut [Stroke], tints: &mut [Stroke]) -> io::Result<bool> {
+fn replay(
+    rt: &LibcRuntime,
+    case: &Case,
+    purges: &mut [Stroke],
+    tints: &mut [Stroke],
+) -> io::Result<bool> {
     let purge_entries = case.purge_entries.min(purges.len());
     let tint_entries = case.tint_entries.min(tints.len());
     let purges = &mut purges[0..purge_entries];
@@ -109,7 +143,11 @@ fn main(rt: LibcRuntime) -> io::Result<()> {
         if rest.len() - CASE_HEAD < len {
             break;
         }
-        let case = Case { ticket: &rest[CASE_HEAD..CASE_HEAD + len], purge_entries, tint_entries };
+        let case = Case {
+            ticket: &rest[CASE_HEAD..CASE_HEAD + len],
+            purge_entries,
+            tint_entries,
+        };
         if replay(&rt, &case, &mut purges, &mut tints)? {
             loaded = loaded.saturating_add(1);
         } else {

@@ -46,8 +46,14 @@ fn main(rt: LibcRuntime) -> io::Result<()> {
             return Err(e);
         }
     };
-    let mut purges = [Stroke { valve: 0, volume: 0 }; TABLE_ENTRIES];
-    let mut tints = [Stroke { valve: 0, volume: 0 }; TABLE_ENTRIES];
+    let mut purges = [Stroke {
+        valve: 0,
+        volume: 0,
+    }; TABLE_ENTRIES];
+    let mut tints = [Stroke {
+        valve: 0,
+        volume: 0,
+    }; TABLE_ENTRIES];
     match load(&ticket[0..n], &mut purges, &mut tints) {
         Ok(loaded) => {
             words::show_settings(&rt, &loaded)?;

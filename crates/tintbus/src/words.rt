@@ -74,8 +74,10 @@ fn meaning(fault: CanFault) -> &'static str {
         CanFault::After(_) => "There are bytes after the end record",
         CanFault::NoEnd(_) => "There is no end record",
         CanFault::Record(RecordFault::Unknown, _) => "No record has this kind",
-        CanFault::Record(RecordFault::Cut, _) => "The record's body runs past the end of the ticket",
+        CanFault::Record(RecordFault::Cut, _) =>
+            "The record's body runs past the end of the ticket",
         CanFault::Record(RecordFault::Field(FieldFault::ZeroStride), _) => "The label stride is 0",
-        CanFault::Record(RecordFault::Field(FieldFault::High), _) => "A valve or canister is above 15",
+        CanFault::Record(RecordFault::Field(FieldFault::High), _) =>
+            "A valve or canister is above 15",
     }
 }

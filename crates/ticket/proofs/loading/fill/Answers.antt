@@ -29,14 +29,15 @@ loop-at-again c =
     let k : ℕ = getD (c .args .bytes .now) (c .loop-at .at) 0 in
     let n = c .body-len-len .ensures in
     elim (c .match-kind .came) [
-      in-2 w ↦
-        (let x = w .stroke .ensures ∙ stroke-is _ _ _ _ _ _ _ _ i lt _ n (ap (bodyIn bodies) (w .in-2 .is)) in
-        rw (w .p-is, w .t-is, w .purges-is, w .tints-is, x) (fills-on _ _ _ _ _ _ _ _ i lt true false _ (eq-eqb k 2 (w .in-2 .is)) (ne-eqb k 3 (λ e. omega arith)) n))
-    | in-3 w ↦
-        (let x = w .stroke-in-3 .ensures ∙ stroke-is _ _ _ _ _ _ _ _ i lt _ n (ap (bodyIn bodies) (w .in-3 .is)) in
-        rw (w .p-is, w .t-is, w .purges-is, w .tints-is, x) (fills-on _ _ _ _ _ _ _ _ i lt false true _ (ne-eqb k 2 (λ e. omega arith)) (eq-eqb k 3 (w .in-3 .is)) n))
-    | in-rest w ↦
-        rw (w .p-is, w .t-is, w .purges-is, w .tints-is) (fills-on _ _ _ _ _ _ _ _ i lt false false _ (ne-eqb k 2 (λ e. grind arith)) (ne-eqb k 3 (λ e. grind arith)) n) ]
+      | in-2 w ↦
+          (let x = w .stroke .ensures ∙ stroke-is _ _ _ _ _ _ _ _ i lt _ n (ap (bodyIn bodies) (w .in-2 .is)) in
+          rw (w .p-is, w .t-is, w .purges-is, w .tints-is, x) (fills-on _ _ _ _ _ _ _ _ i lt true false _ (eq-eqb k 2 (w .in-2 .is)) (ne-eqb k 3 (λ e. omega arith)) n))
+      | in-3 w ↦
+          (let x = w .stroke-in-3 .ensures ∙ stroke-is _ _ _ _ _ _ _ _ i lt _ n (ap (bodyIn bodies) (w .in-3 .is)) in
+          rw (w .p-is, w .t-is, w .purges-is, w .tints-is, x) (fills-on _ _ _ _ _ _ _ _ i lt false true _ (ne-eqb k 2 (λ e. omega arith)) (eq-eqb k 3 (w .in-3 .is)) n))
+      | in-rest w ↦
+          rw (w .p-is, w .t-is, w .purges-is, w .tints-is) (fills-on _ _ _ _ _ _ _ _ i lt false false _ (ne-eqb k 2 (λ e. grind arith)) (ne-eqb k 3 (λ e. grind arith)) n)
+    ]
 
 pub returns : need.returns
 returns c = fills-all _ _ _ _ _ _ _ _ (c .loop-at .inv) (c .loop-at-test .left)

@@ -39,13 +39,13 @@ returns-then-at-bytes c =
     let b = sym (c .body-len .ensures ∙ ap (bodyIn bodies) (c .kind .ensures)) in
     let P : ℕ → Type 0 = λ n. c .loop-at .at + (1 + n) < length (c .args .bytes .now) → Broken bodies (c .args .room) (c .args .bytes .now) (canFault 10 (c .loop-at .at + (1 + n))) in
     inr (subst P b (spills _ _ _ _ (c .loop-at .inv) (bytes-under _ (c .typed .bytes)) (omega arith) (c .loop-at-test .taken)
-      (c .in-Continue-record .record) (c .in-Continue-record .ensures tt) (ap kind (c .in-End .is))) (c .if-at-bytes .taken))
+    (c .in-Continue-record .record) (c .in-Continue-record .ensures tt) (ap kind (c .in-End .is))) (c .if-at-bytes .taken))
 
 pub returns-in-End : need.returns-in-End
 returns-in-End c =
     let b = c .body-len .ensures ∙ ap (bodyIn bodies) (c .kind .ensures) in
     let e = ends _ _ _ _ (c .loop-at .inv) (bytes-under _ (c .typed .bytes)) (omega arith) (c .loop-at-test .taken)
-      (c .in-Continue-record .record) (c .in-Continue-record .ensures tt) _ (c .in-End .is) (omega (arith, b, c .if-at-bytes .left)) in
+    (c .in-Continue-record .record) (c .in-Continue-record .ensures tt) _ (c .in-End .is) (omega (arith, b, c .if-at-bytes .left)) in
     (e .0, e .1, e .2, subst (Says (e .0)) (sym (c .loaded .ensures ∙ ap answered (c .note .ensures))) (e .3))
 
 pub loop-at-again : need.loop-at-again
@@ -53,8 +53,8 @@ loop-at-again c =
     let b = sym (c .body-len .ensures ∙ ap (bodyIn bodies) (c .kind .ensures)) in
     let P : ℕ → Type 0 = λ n. Sofar (c .args .room) (c .args .bytes .now) (c .loop-at .at + (1 + n)) (c .note .last .self) in
     subst P b (subst (Sofar (c .args .room) (c .args .bytes .now) _) (sym (c .note .ensures))
-      (goes _ _ _ _ (c .loop-at .inv) (bytes-under _ (c .typed .bytes)) (omega arith) (c .loop-at-test .taken)
-        (c .in-Continue-record .record) (c .in-Continue-record .ensures tt) (λ e. let n = end-of (c .in-Continue-record .record) e in c .in-rest .not-End (n .0) (n .1))))
+    (goes _ _ _ _ (c .loop-at .inv) (bytes-under _ (c .typed .bytes)) (omega arith) (c .loop-at-test .taken)
+    (c .in-Continue-record .record) (c .in-Continue-record .ensures tt) (λ e. let n = end-of (c .in-Continue-record .record) e in c .in-rest .not-End (n .0) (n .1))))
 
 pub returns : need.returns
 returns c = inr (no-end _ _ _ _ (c .loop-at .inv) (omega arith) (c .loop-at-test .left))

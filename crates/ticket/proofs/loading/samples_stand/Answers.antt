@@ -17,18 +17,25 @@ inner = Head 7 1000 ∷ Purge (pour 5 10) ∷ Tint (pour 1 100) ∷ Tint (pour 2
 pub returns : need.returns
 unfolding big inner
 returns c = record {
-    bytes = refl;
-    lawful = λ room p t. record {
-      inner = inner;
-      right = record {
-        headed = (refl, refl); unended = refl; fits = omega arith; allowed = omega arith;
-        once = λ k lo hi. grind (arith, tells); purges = p; tints = t };
-      some = λ e. omega (arith, ap length e);
-      ends = refl;
-      short = omega arith };
-    says = record { purges = refl; tints = refl; can = refl; size = refl; resume = refl; limit = refl; stride = refl; first = refl };
-    purges = refl;
-    tints = refl;
-    empty = λ room. inr (record { short = omega arith; rs = []; ys = []; right = right-none room; bytes = refl; wrong = refl });
-    endAlone = λ room. inr (record { short = omega arith; rs = []; ys = 15 ∷ 0 ∷ 0 ∷ []; right = right-none room; bytes = refl; wrong = refl })
-  }
+  bytes = refl;
+  lawful = λ room p t. record {
+    inner = inner;
+    right = record {
+      headed = (refl, refl);
+      unended = refl;
+      fits = omega arith;
+      allowed = omega arith;
+      once = λ k lo hi. grind (arith, tells);
+      purges = p;
+      tints = t;
+    };
+    some = λ e. omega (arith, ap length e);
+    ends = refl;
+    short = omega arith;
+  };
+  says = record { purges = refl; tints = refl; can = refl; size = refl; resume = refl; limit = refl; stride = refl; first = refl };
+  purges = refl;
+  tints = refl;
+  empty = λ room. inr (record { short = omega arith; rs = []; ys = []; right = right-none room; bytes = refl; wrong = refl });
+  endAlone = λ room. inr (record { short = omega arith; rs = []; ys = 15 ∷ 0 ∷ 0 ∷ []; right = right-none room; bytes = refl; wrong = refl });
+}

@@ -16,7 +16,7 @@ returns c =
     let z : len - 0 ≡ len = omega arith in
     c .admit .ensures
     ∙ passes bodies (c .args .room) (tally (c .args .self .now)) place (c .args .kind) (c .args .tail .now) len (c .in-Continue-record .record)
-      (c .in-Continue-len .ensures tt ∙ ap (λ x. placed x place) (c .frame .ensures))
-      (c .in-Continue-order .ensures tt)
-      (c .in-Continue-record .ensures tt ∙ (ap (λ x. placed x place) (c .content .ensures)
-        ∙ ap (λ (n : ℕ). placed (mapErr Field (fielded (c .args .kind) (take n (c .args .tail .now)))) place) z))
+    (c .in-Continue-len .ensures tt ∙ ap (λ x. placed x place) (c .frame .ensures))
+    (c .in-Continue-order .ensures tt)
+    (c .in-Continue-record .ensures tt ∙ (ap (λ x. placed x place) (c .content .ensures)
+    ∙ ap (λ (n : ℕ). placed (mapErr Field (fielded (c .args .kind) (take n (c .args .tail .now)))) place) z))
