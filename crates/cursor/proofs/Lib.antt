@@ -1,1 +1,3 @@
 pub mod NonZero
+pub mod Laws
+pub mod Spans

@@ -1,5 +1,6 @@
 // The making of a shortfall: none is made of 0.
 ghost use mathlib.Core.Path.{_≡_};
+ghost use Rattle.cursor.specs.Calls.{lack};
 ghost use Rattle.cursor.specs.NonZero.{shortfallOf};
 use crate::shortfall::Shortfall;
 
@@ -19,5 +20,16 @@ impl Shortfall {
         ensures { λ r. ⌜ r ≡ self .places ⌝ }
     {
         self.places
+    }
+}
+
+// What an advance answers that lacks so many places: done, if it lacks none.
+pub fn short_by(places: u64) -> Result<(), Shortfall>
+    ensures { λ r. ⌜ lack r ≡ places ⌝ }
+{
+    if places == 0 {
+        Ok(())
+    } else {
+        Err(Shortfall { places })
     }
 }
