@@ -1,5 +1,5 @@
 -- Laws of rows, and the named sets of them that adapters hand to `search`.
-use mathlib.Core.Path.{_≡_, refl, sym, _∙_, ap, subst, fun-ext}
+use mathlib.Core.Path.{_≡_, refl, sym, ap, subst, fun-ext}
 use mathlib.Core.Bool.{true}
 use mathlib.Core.Logic.{⊎-elim}
 use Prim.Native.Nat.{ℕ, zero, suc, _+_, _-_, _^_, _≤_, _<_, min}
@@ -9,7 +9,7 @@ use Rattle.std.specs.declared.option.Option.the-variants.{None, Some}
 use Rattle.std.specs.Options.{isSome}
 use Rattle.std.proofs.shelf.Tests.{cases-lt}
 use Rattle.std.proofs.shelf.Ways.{tells}
-use Rattle.cursor.specs.Rows.{Row, Closed, Length, bare, after, first, one, taken, size, back, backAt}
+use Rattle.cursor.specs.Rows.{Row, Length, bare, after, first, one, taken, size, back, backAt}
 use Rattle.cursor.specs.Closing.{first-in, first-out}
 
 -- at one place

@@ -1,5 +1,5 @@
 -- What the bounds of a leaf show of a row, and what each call of a leaf leaves of it.
-use mathlib.Core.Path.{_≡_, refl, sym, _∙_, ap, subst, fun-ext}
+use mathlib.Core.Path.{_≡_, refl, sym, _∙_, ap, fun-ext}
 use mathlib.Core.Bool.{Bool, true, false, cond}
 use mathlib.Core.List.{List, [], _∷_}
 use Prim.Native.Nat.{ℕ, zero, suc, _+_, _-_, _^_, _≤_, _<_, min}
@@ -15,8 +15,8 @@ use Rattle.std.proofs.shelf.Ways.{tells}
 use Rattle.cursor.specs.declared.span.Span.{Span}
 use Rattle.cursor.specs.Rows.{Row, Length, after, first, size, taken, back, backAt, window, numbers}
 use Rattle.cursor.specs.Calls.{Spent, Touched, capped}
-use Rattle.cursor.specs.Spans.{shown, placeAt, placeBack, cutFront, cutBack}
-use Rattle.cursor.proofs.Laws.{taken-length, size-length, back-in, back-out}
+use Rattle.cursor.specs.Spans.{shown, cutFront, cutBack}
+use Rattle.cursor.proofs.Laws.{taken-length, size-length}
 
 -- a leaf's tally after a touch
 pub touching : {A : Type 0} (t t′ : ℕ) (h : Row A) → t < 2 ^ 64 → t′ ≡ capped (t + 1) → Spent 1 Touched t t′ h h

@@ -7,7 +7,7 @@ use native.Mathlib.Omega.{arith}
 use lib.Dec.{ltb}
 use Rattle.std.specs.Finite.{nth}
 use Rattle.std.specs.Options.{isSome}
-use Rattle.std.specs.declared.option.Option.the-variants.{None, Some}
+use Rattle.std.specs.declared.option.Option.the-variants.{None}
 use Rattle.std.proofs.shelf.Tests.{true≢false, cases-lt, cond-true, cond-false, lt-ltb, le-ltb}
 use Rattle.cursor.specs.Rows.{Row, Closed, bare, after, first, numbers}
 

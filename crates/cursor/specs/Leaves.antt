@@ -3,9 +3,8 @@ use denote.Ref.{now}
 use Rattle.std.specs.Finite.{nth}
 use Rattle.cursor.specs.declared.count.CountLeaf.{CountLeaf}
 use Rattle.cursor.specs.declared.slice.SliceLeaf.{SliceLeaf}
-use Rattle.cursor.specs.Rows.{Row, Closed, numbers}
+use Rattle.cursor.specs.Rows.{Row, numbers}
 use Rattle.cursor.specs.Spans.{shown}
-use Rattle.cursor.specs.Closing.{closed-first, closed-after, closed-numbers, closed-nth}
 use Prim.Native.Nat.{ℕ}
 
 abbrev pub countRow : CountLeaf → Row ℕ

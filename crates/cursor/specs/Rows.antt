@@ -1,6 +1,6 @@
 -- Rows: at each place 0, 1, 2 and on an item or nothing.
 use mathlib.Core.Path.{_≡_}
-use mathlib.Core.Bool.{Bool, true, cond}
+use mathlib.Core.Bool.{true, cond}
 use Prim.Native.Nat.{ℕ, zero, suc, _+_, _-_, _^_, _≤_, _<_}
 use lib.Dec.{ltb}
 use Rattle.std.specs.declared.option.Option.{Option}

@@ -1,14 +1,13 @@
 -- Numbers in bytes, the most significant first.
 use mathlib.Core.Path.{_≡_, refl, sym, ap, ap₂, _∙_}
-use mathlib.Core.List.{List, [], _∷_, _++_}
-use Prim.Native.Nat.{ℕ, zero, suc, _+_, _*_, _^_, _/_, _%_, _<_, _≤_}
+use mathlib.Core.List.{List, [], _∷_}
+use Prim.Native.Nat.{ℕ, zero, suc, _+_, _*_, _^_, _/_, _%_, _<_}
 use native.Mathlib.Nat.{pow-zero, pow-suc}
 use native.Mathlib.Omega.{arith}
 use mir.Val.{Fits as FitsWidth}
 use mir.Syntax.{w8}
 use lib.ListN.{length, getD, take, length-append}
 use lib.Seq.{take-all}
-use Rattle.std.specs.shelf.Lists.{All}
 use Rattle.std.specs.shelf.Digits.{number, numberAfter, Under}
 use Rattle.std.proofs.shelf.Digits.{number-push, number-more, number-lt}
 use Rattle.std.proofs.shelf.Elements.{all-push, all-from-getD}

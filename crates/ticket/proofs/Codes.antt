@@ -2,20 +2,18 @@
 use mathlib.Core.Path.{_≡_, refl, sym, ap, ap₂, _∙_}
 use mathlib.Core.List.{List, [], _∷_, _++_, append-nil, append-assoc}
 use mathlib.Core.Logic.{_⊎_, inl, inr}
-use mathlib.Core.Bool.{Bool, true, false, cond}
-use Prim.Native.Nat.{ℕ, zero, suc, _+_, _^_, _<_, _≤_, suc-le-suc, zero-le}
+use mathlib.Core.Bool.{false}
+use Prim.Native.Nat.{ℕ, zero, suc, _+_, _^_, _<_, suc-le-suc, zero-le}
 use native.Mathlib.Nat.{not-suc-le-zero}
 use native.Mathlib.Omega.{arith}
-use lib.Dec.{eqb, ltb}
 use lib.ListN.{length, length-append, getD, take, drop, take-append-drop, length-drop}
 use lib.Seq.{take-at, drop-at, take-all, length-take-le}
 use Rattle.std.specs.shelf.Lists.{All}
 use Rattle.std.specs.shelf.Digits.{Under, number}
 use Rattle.std.proofs.shelf.Elements.{all-take, all-drop}
-use Rattle.std.proofs.shelf.Tests.{le-ltb, ltb-false, eqb-false}
+use Rattle.std.proofs.shelf.Tests.{ltb-false, eqb-false}
 use Rattle.cursor.specs.declared.stride.Stride.{Stride}
 use Rattle.cursor.proofs.NonZero.{stride, same-stride}
-use Rattle.frame.specs.declared.stroke.Stroke.{Stroke}
 use Rattle.ticket.specs.declared.record.Record.{Record}
 use Rattle.ticket.specs.declared.record.Record.the-variants.{Head, Tint, Purge, Resume, Limit, Every, First, End}
 use Rattle.ticket.specs.Kinds.{bodyIn}

@@ -13,7 +13,7 @@ use Rattle.ticket.specs.declared.faults.CanFault.{CanFault}
 use Rattle.ticket.specs.declared.record.Record.{Record}
 use Rattle.ticket.specs.declared.loaded.Loaded.{Loaded}
 use Rattle.ticket.specs.Records.{written, Fits}
-use Rattle.ticket.specs.Lists.{Lawful, Says}
+use Rattle.ticket.specs.Lists.{Says}
 use Rattle.ticket.specs.Refusals.{Refuses}
 use Rattle.ticket.specs.Loading.{roomOf, filled, Loading, Judged}
 use Rattle.ticket.proofs.Codes.{bodies, unique}

@@ -1,28 +1,27 @@
 -- Right records, one after another: what may stand behind them, and what is wrong where nothing may.
-use mathlib.Core.Path.{_≡_, refl, sym, ap, ap₂, _∙_, subst}
+use mathlib.Core.Path.{_≡_, refl, ap, _∙_}
 use mathlib.Core.List.{List, [], _∷_, _++_}
-use mathlib.Core.Bool.{Bool, true, false, cond, not, _&&_, _||_}
+use mathlib.Core.Bool.{Bool, false, cond, not}
 use mathlib.Core.Logic.{_≢_}
-use Prim.Native.Nat.{ℕ, _+_, _^_, _<_, _≤_}
+use Prim.Native.Nat.{ℕ, _+_, _^_, _<_}
 use native.Mathlib.Omega.{arith}
-use lib.Dec.{eqb, leb, ltb}
-use lib.ListN.{length, length-append, take}
+use lib.Dec.{eqb}
+use lib.ListN.{length, length-append}
 use lib.Seq.{take-at}
 use Rattle.std.specs.shelf.Lists.{All}
 use Rattle.std.specs.shelf.Digits.{number}
-use Rattle.std.proofs.shelf.Elements.{all-append, all-push}
+use Rattle.std.proofs.shelf.Elements.{all-push}
 use Rattle.std.proofs.shelf.Tests.{eq-eqb, ne-eqb, le-ltb, eqb-true, not-false}
 use Rattle.std.proofs.shelf.Ways.{tells}
-use Rattle.std.specs.declared.option.Option.{Option}
 use Rattle.std.specs.declared.option.Option.the-variants.{None, Some}
 use Rattle.ticket.specs.declared.faults.CanFault.{CanFault}
 use Rattle.ticket.specs.declared.record.Record.{Record}
 use Rattle.ticket.specs.declared.record.Record.the-variants.{Head, Tint, Purge, Resume, Limit, Every, First, End}
 use Rattle.ticket.specs.declared.seen.Room.{Room}
 use Rattle.ticket.specs.Kinds.{bodyIn}
-use Rattle.ticket.specs.Records.{big, kind, body, written, Fits}
-use Rattle.ticket.specs.Lists.{says, is, count, Allowed, Headed, Right}
-use Rattle.ticket.specs.Refusals.{unknown, cut, misplaced, twice, high, still, full, miscounted, followed, faults, after, firstOf, wrong}
+use Rattle.ticket.specs.Records.{big, kind, body, Fits}
+use Rattle.ticket.specs.Lists.{count, Allowed, Headed, Right}
+use Rattle.ticket.specs.Refusals.{misplaced, twice, high, still, full, followed, faults, after, firstOf, wrong}
 use Rattle.ticket.proofs.Bytes.{number-big}
 use Rattle.ticket.proofs.Codes.{bodies, body-length, body-some}
 use Rattle.ticket.proofs.Steps.{Off, skip}

@@ -1,9 +1,9 @@
 -- The checks of one record, one after another, give the first fault of the list.
-use mathlib.Core.Path.{_≡_, refl, sym, ap, _∙_}
+use mathlib.Core.Path.{_≡_, refl, sym, ap, _∙_, subst}
 use mathlib.Core.List.{List, [], _∷_, _++_}
 use mathlib.Core.Bool.{Bool, true, false, cond}
 use mathlib.Core.Logic.{_⊎_, inl, inr}
-use Prim.Native.Nat.{ℕ, _<_}
+use Prim.Native.Nat.{ℕ, _-_, _<_}
 use native.Mathlib.Omega.{arith}
 use lib.ListN.{length, take}
 use lib.Seq.{length-take-le}
@@ -11,8 +11,7 @@ use Rattle.std.specs.shelf.Lists.{All}
 use Rattle.std.specs.shelf.Digits.{Under}
 use Rattle.std.proofs.shelf.Elements.{all-append, all-take}
 use Rattle.std.proofs.shelf.Tests.{ltb-false, eqb-false}
-use Rattle.std.specs.declared.option.Option.{Option}
-use Rattle.std.specs.declared.option.Option.the-variants.{None, Some}
+use Rattle.std.specs.declared.option.Option.the-variants.{Some}
 use Rattle.std.specs.declared.result.Result.{Result}
 use Rattle.std.specs.declared.result.Result.the-variants.{Ok, Err}
 use Rattle.ticket.specs.declared.faults.FieldFault.{FieldFault}
@@ -49,13 +48,18 @@ module _ (table : List ℕ) (room : Room) (c : ℕ → ℕ) (p k : ℕ) (zs : Li
   abbrev pub ordering : ℕ → Result Entry CanFault
   ordering n = then (ordered c p k) (λ _. fielding n)
 
-  pub passes : (n : ℕ) (r : Entry) → okN n ≡ placed (framed table k zs) p → okU tt ≡ ordered c p k → okE r ≡ placed (mapErr Field (fielded k (take n zs))) p
-      → admitted room c p r ≡ stepped table room c p k zs
-  passes n r a b d =
-      sym (ap (λ (x : Result ℕ RecordFault). then (mapErr (λ f. Record f p) x) ordering) (under (λ f. (f, p)) (framed table k zs) n a)
-      ∙ (ap (λ (x : Result (Unit {0}) CanFault). then x (λ _. fielding n)) (sym b)
-      ∙ ap (λ (x : Result Entry RecordFault). then (mapErr (λ f. Record f p) x) (λ q. admitted room c p q))
-      (under (λ f. (f, p)) (mapErr Field (fielded k (take n zs))) r d)))
+  -- the answer of the last check is that of all, where those before it passed; x and y are what the first and the third answered
+  pub passes : (n : ℕ) (r : Entry) (x : Result ℕ RecordFault) (y : Result Entry RecordFault) (v : Result Entry CanFault)
+      → x ≡ framed table k zs → okN n ≡ placed x p
+      → okU tt ≡ ordered c p k
+      → y ≡ mapErr Field (fielded k (take (n - 0) zs)) → okE r ≡ placed y p
+      → v ≡ admitted room c p r → v ≡ stepped table room c p k zs
+  passes n r x y v ex a b ey d e =
+      let z : n - 0 ≡ n = omega arith in
+      e ∙ sym (ap (λ (w : Result ℕ RecordFault). then (mapErr (λ f. Record f p) w) ordering) (sym ex ∙ under (λ f. (f, p)) x n a)
+      ∙ (ap (λ (w : Result (Unit {0}) CanFault). then w (λ _. fielding n)) (sym b)
+      ∙ ap (λ (w : Result Entry RecordFault). then (mapErr (λ f. Record f p) w) (λ q. admitted room c p q))
+      (ap (λ (m : ℕ). mapErr Field (fielded k (take m zs))) (sym z) ∙ (sym ey ∙ under (λ f. (f, p)) y r d))))
 
 -- a check that found nothing
 abbrev pub Off : Bool × CanFault → Type 0
@@ -131,19 +135,41 @@ module _ (room : Room) (c : ℕ → ℕ) (p k : ℕ) (zs : List ℕ) where
       ∙ ap (λ (x : Result Entry CanFault). cond (misplaced c k) (errE (canFault 5 p)) (cond (twice c k) (errE (canFault 6 p)) x))
       (both (λ (x : Result Entry FieldFault). then (mapErr (λ f. Record f p) (mapErr Field x)) (λ r. admitted room c p r)) (high k xs) (still k xs) _ _ _))
 
-  -- the record at place p has a first fault, or it is right
-  pub outcome : Under 256 zs
-      → ((e : CanFault) × (stepped bodies room c p k zs ≡ errE e) × ((ws : List (Bool × CanFault)) → firstOf (faults bodies room c p k zs xs ++ ws) ≡ Some e))
-      ⊎ ((stepped bodies room c p k zs ≡ Ok (recordOf k xs)) × All Off (faults bodies room c p k zs xs) × Coded k xs (recordOf k xs))
+  -- a record without a fault
+  pub record Passed (r : Entry) : Type 0 where
+    pub off : All Off (faults bodies room c p k zs xs)
+    pub place : misplaced c k ≡ false
+    pub fresh : twice c k ≡ false
+    pub free : full room c k ≡ false
+    pub total : miscounted c k xs ≡ false
+    pub coded : Coded k xs r
+
+  -- what the checks' answer tells: the record has no fault, or this is its first, whatever is looked for later
+  abbrev pub Tells : Result Entry CanFault → Type 0
+  Tells (Ok r) = Passed r
+  Tells (Err e) = (ws : List (Bool × CanFault)) → firstOf (faults bodies room c p k zs xs ++ ws) ≡ Some e
+
+  outcome : Under 256 zs → Tells (stepped bodies room c p k zs)
   outcome u = elim (climb six after-six) [
-    | inl q ↦ inl (q .0, laddered ∙ q .1, λ ws. q .2 (last ++ ws))
+    | inl q ↦ subst Tells (sym (laddered ∙ q .1)) (λ ws. q .2 (last ++ ws))
     | inr q ↦
         (let o = q .1 in
         let n : Known k = known k (omega (arith, eqb-false (bodyIn bodies k) 0 (o .0))) in
         let l : length xs ≡ bodyIn bodies k = length-take-le (bodyIn bodies k) zs (ltb-false (length zs) (bodyIn bodies k) (o .1 .0)) in
         let d = encode k n xs l (all-take (λ x. x < 256) (bodyIn bodies k) zs u) (o .1 .1 .1 .1 .0) (o .1 .1 .1 .1 .1 .0) in
+        let on = laddered ∙ (q .0 ∙ admits room c p k n xs) in
         elim (climb last (Ok (recordOf k xs))) [
-          | inl t ↦ inl (t .0, laddered ∙ (q .0 ∙ (admits room c p k n xs ∙ t .1)), λ ws. skip six (last ++ ws) o ∙ t .2 ws)
-          | inr t ↦ inr (laddered ∙ (q .0 ∙ (admits room c p k n xs ∙ t .0)), all-append Off six last o (t .1), d)
+          | inl t ↦ subst Tells (sym (on ∙ t .1)) (λ ws. skip six (last ++ ws) o ∙ t .2 ws)
+          | inr t ↦ subst Tells (sym (on ∙ t .0)) (record {
+            off = all-append Off six last o (t .1);
+            place = o .1 .1 .0;
+            fresh = o .1 .1 .1 .0;
+            free = t .1 .0;
+            total = t .1 .1 .0;
+            coded = d;
+          })
         ])
   ]
+
+  pub told : Under 256 zs → (v : Result Entry CanFault) → stepped bodies room c p k zs ≡ v → Tells v
+  told u v e = subst Tells e (outcome u)

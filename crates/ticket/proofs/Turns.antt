@@ -1,38 +1,34 @@
 -- One turn of the reader: a record more, or the ticket's answer.
 use mathlib.Core.Path.{_≡_, refl, sym, ap, ap₂, _∙_, subst, fun-ext}
 use mathlib.Core.List.{List, [], _∷_, _++_, append-nil, append-assoc}
-use mathlib.Core.Bool.{Bool, true, false, cond, not, _&&_}
-use mathlib.Core.Logic.{_⊎_, inl, inr, _≢_}
+use mathlib.Core.Bool.{Bool, true, cond}
+use mathlib.Core.Logic.{_≢_}
 use Prim.Native.Nat.{ℕ, _+_, _-_, _<_, _≤_}
 use native.Mathlib.Omega.{arith}
-use lib.Dec.{eqb, ltb}
 use lib.ListN.{length, length-append, length-drop, getD, take, drop, take-append-drop}
 use lib.Seq.{drop-drop}
-use Rattle.std.specs.shelf.Lists.{All}
 use Rattle.std.specs.shelf.Digits.{Under, number}
 use Rattle.std.proofs.shelf.Elements.{all-drop}
 use Rattle.std.proofs.shelf.Lists.{drop-more, drop-all, take-rest}
-use Rattle.std.proofs.shelf.Tests.{eq-eqb, lt-ltb, not-false, eqb-true}
+use Rattle.std.proofs.shelf.Tests.{lt-ltb}
 use Rattle.std.proofs.shelf.Ways.{tells}
-use Rattle.std.specs.declared.option.Option.{Option}
 use Rattle.std.specs.declared.option.Option.the-variants.{None, Some}
 use Rattle.std.specs.declared.result.Result.{Result}
 use Rattle.std.specs.declared.result.Result.the-variants.{Ok, Err}
 use Rattle.ticket.specs.declared.faults.CanFault.{CanFault}
 use Rattle.ticket.specs.declared.record.Record.{Record}
-use Rattle.ticket.specs.declared.record.Record.the-variants.{Head, Tint, Purge, Resume, Limit, Every, First, End}
-use Rattle.ticket.specs.declared.loaded.Loaded.{Loaded}
+use Rattle.ticket.specs.declared.record.Record.the-variants.{End}
 use Rattle.ticket.specs.declared.seen.Room.{Room}
 use Rattle.ticket.specs.declared.seen.Seen.{Seen}
 use Rattle.ticket.specs.Kinds.{bodyIn}
 use Rattle.ticket.specs.Numbers.{canFault}
 use Rattle.ticket.specs.Records.{kind, body, written, Fits}
 use Rattle.ticket.specs.Lists.{count, Right, Lawful, Says}
-use Rattle.ticket.specs.Refusals.{misplaced, twice, full, miscounted, followed, faults, after, firstOf, wrong, Broken}
-use Rattle.ticket.specs.Reading.{tally, recordOf, stepped, nothing, noted, answered}
+use Rattle.ticket.specs.Refusals.{misplaced, twice, full, followed, faults, after, wrong, Broken}
+use Rattle.ticket.specs.Reading.{tally, stepped, nothing, noted, answered}
 use Rattle.ticket.proofs.Bytes.{number-big}
-use Rattle.ticket.proofs.Codes.{bodies, Coded, body-length}
-use Rattle.ticket.proofs.Steps.{Off, skip, outcome}
+use Rattle.ticket.proofs.Codes.{bodies, body-length}
+use Rattle.ticket.proofs.Steps.{skip, Passed, Tells, told}
 use Rattle.ticket.proofs.Rights.{Stands, right-none, right-push}
 use Rattle.ticket.proofs.Verdicts.{written-append, count-le}
 use Rattle.ticket.proofs.Seens.{Holds, holds-none, holds-push, holds-says}
@@ -44,21 +40,6 @@ pub record Sofar (room : Room) (bs : List ℕ) (at : ℕ) (s : Seen) : Type 0 wh
   pub bytes : bs ≡ written rs ++ drop at bs
   pub place : at ≡ length (written rs)
   pub holds : Holds s rs
-
-abbrev okE : Record → Result Record CanFault
-okE r = Ok r
-
-abbrev errE : CanFault → Result Record CanFault
-errE e = Err e
-
-ok-same : {x y : Record} {v : Result Record CanFault} → v ≡ Ok x → v ≡ Ok y → x ≡ y
-ok-same p q = cc
-
-err-same : {x y : CanFault} {v : Result Record CanFault} → v ≡ Err x → v ≡ Err y → x ≡ y
-err-same p q = cc
-
-ok-err : {x : Record} {e : CanFault} {v : Result Record CanFault} → v ≡ Ok x → v ≡ Err e → ⊥
-ok-err p q = let z : _≡_ {A = ℕ} 0 1 = cc in omega arith
 
 pub sofar-none : (room : Room) (bs : List ℕ) → Sofar room bs 0 nothing
 sofar-none room bs = record { rs = []; right = right-none room; bytes = refl; place = refl; holds = holds-none }
@@ -109,47 +90,41 @@ module _ (room : Room) (bs : List ℕ) (at : ℕ) (s : Seen) (f : Sofar room bs 
     abbrev behind : Bool × CanFault
     behind = after bodies at k zs
 
-    outcome-here : ((e : CanFault) × (stepped bodies room (tally s) at k zs ≡ errE e) × ((ws : List (Bool × CanFault)) → firstOf (here-faults ++ ws) ≡ Some e))
-        ⊎ ((stepped bodies room (tally s) at k zs ≡ okE (recordOf k (take (bodyIn bodies k) zs))) × All Off here-faults × Coded k (take (bodyIn bodies k) zs) (recordOf k (take (bodyIn bodies k) zs)))
-    outcome-here = outcome room (tally s) at k zs (all-drop (λ d. d < 256) (at + 1) bs u)
+    told-here : (v : Result Record CanFault) → Answers v → Tells room (tally s) at k zs v
+    told-here v q = told room (tally s) at k zs (all-drop (λ d. d < 256) (at + 1) bs u) v (answers v q)
 
     -- a fault of the record here
     pub stops : (e : CanFault) → Answers (Err e) → Broken bodies room bs e
-    stops e q = elim outcome-here [
-      | inl o ↦ (let same : o .0 ≡ e = err-same (o .1) (answers (Err e) q) in broken l e (ap (wrong bodies room (tally s) at) here ∙ (o .2 (behind ∷ []) ∙ ap (λ (x : CanFault). Some x) same)))
-      | inr o ↦ absurd (ok-err (o .0) (answers (Err e) q))
-    ]
+    stops e q = broken l e (ap (wrong bodies room (tally s) at) here ∙ told-here (Err e) q (behind ∷ []))
 
     module _ (r : Record) (q : Answers (Ok r)) where
       abbrev pub next : ℕ
       next = at + (1 + bodyIn bodies (kind r))
 
       -- the record here has no fault, and is written here
-      passed : All Off here-faults × Coded k (take (bodyIn bodies k) zs) r
-      passed = elim outcome-here [
-        | inl o ↦ absurd (ok-err (answers (Ok r) q) (o .1))
-        | inr o ↦ (o .1, subst (Coded k (take (bodyIn bodies k) zs)) (ok-same (o .0) (answers (Ok r) q)) (o .2))
-      ]
+      passed : Passed room (tally s) at k zs r
+      passed = told-here (Ok r) q
+
+      kind-here : k ≡ kind r
+      kind-here = sym (passed .coded .kind-is)
 
       stands : Stands room (λ j. count j (f .rs)) r
       stands =
-          let o = passed .0 .1 .1 in
-          let e = sym (passed .1 .kind-is) in
           subst (λ (c : ℕ → ℕ). Stands room c r) counting (record {
-            place = ap (misplaced (tally s)) (sym e) ∙ o .0;
-            fresh = ap (twice (tally s)) (sym e) ∙ o .1 .0;
-            fits = passed .1 .fits;
-            allowed = passed .1 .allowed;
-            free = ap (full room (tally s)) (sym e) ∙ o .1 .1 .1 .1 .0;
+            place = ap (misplaced (tally s)) (sym kind-here) ∙ passed .place;
+            fresh = ap (twice (tally s)) (sym kind-here) ∙ passed .fresh;
+            fits = passed .coded .fits;
+            allowed = passed .coded .allowed;
+            free = ap (full room (tally s)) (sym kind-here) ∙ passed .free;
           })
 
       next-is : at + 1 + bodyIn bodies k ≡ next
-      next-is = ap (λ (j : ℕ). at + 1 + bodyIn bodies j) (sym (passed .1 .kind-is)) ∙ omega arith
+      next-is = ap (λ (j : ℕ). at + 1 + bodyIn bodies j) kind-here ∙ omega arith
 
       left : drop at bs ≡ kind r ∷ (body r ++ drop next bs)
       left =
-          here ∙ ap₂ _∷_ (sym (passed .1 .kind-is))
-          (sym (take-append-drop (bodyIn bodies k) zs) ∙ ap₂ _++_ (sym (passed .1 .body-is)) (drop-drop (bodyIn bodies k) (at + 1) bs ∙ ap (λ (i : ℕ). drop i bs) next-is))
+          here ∙ ap₂ _∷_ kind-here
+          (sym (take-append-drop (bodyIn bodies k) zs) ∙ ap₂ _++_ (sym (passed .coded .body-is)) (drop-drop (bodyIn bodies k) (at + 1) bs ∙ ap (λ (i : ℕ). drop i bs) next-is))
 
       bytes-on : bs ≡ written (f .rs ++ (r ∷ [])) ++ drop next bs
       bytes-on =
@@ -171,9 +146,9 @@ module _ (room : Room) (bs : List ℕ) (at : ℕ) (s : Seen) (f : Sofar room bs 
       pub spills : kind r ≡ 15 → next < length bs → Broken bodies room bs (canFault 10 next)
       spills e n =
           let t : followed bodies k zs ≡ true =
-          ap (λ (j : ℕ). followed bodies j zs) (sym (passed .1 .kind-is) ∙ e) ∙ lt-ltb 2 (length zs) (omega (arith, n, length-drop (at + 1) bs, ap (bodyIn bodies) e)) in
+          ap (λ (j : ℕ). followed bodies j zs) (kind-here ∙ e) ∙ lt-ltb 2 (length zs) (omega (arith, n, length-drop (at + 1) bs, ap (bodyIn bodies) e)) in
           broken l (canFault 10 next)
-          (ap (wrong bodies room (tally s) at) here ∙ (skip here-faults (behind ∷ []) (passed .0)
+          (ap (wrong bodies room (tally s) at) here ∙ (skip here-faults (behind ∷ []) (passed .off)
           ∙ (ap (λ (b : Bool). cond b (Some (behind .1)) None) t ∙ ap (λ (p : ℕ). Some (canFault 10 p)) next-is)))
 
       -- the end, and its number
@@ -182,9 +157,9 @@ module _ (room : Room) (bs : List ℕ) (at : ℕ) (s : Seen) (f : Sofar room bs 
 
       total : (m : ℕ) → r ≡ End m → m ≡ count 2 (f .rs) + count 3 (f .rs)
       total m e =
-          let k15 : k ≡ 15 = sym (passed .1 .kind-is) ∙ ap kind e in
-          let n : number 256 (take (bodyIn bodies k) zs) ≡ m = ap (number 256) (sym (passed .1 .body-is) ∙ ap body e) ∙ number-big 2 m (subst Fits e (passed .1 .fits)) in
-          let o = passed .0 .1 .1 .1 .1 .1 .1 .1 .0 in
+          let k15 : k ≡ 15 = kind-here ∙ ap kind e in
+          let n : number 256 (take (bodyIn bodies k) zs) ≡ m = ap (number 256) (sym (passed .coded .body-is) ∙ ap body e) ∙ number-big 2 m (subst Fits e (passed .coded .fits)) in
+          let o = passed .total in
           let two = f .holds .counts 2 in
           let three = f .holds .counts 3 in
           grind (arith, tells)

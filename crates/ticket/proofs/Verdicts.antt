@@ -1,8 +1,7 @@
 -- For every byte string the answer is fixed.
 use mathlib.Core.Path.{_≡_, refl, sym, ap, ap₂, _∙_, subst}
-use mathlib.Core.List.{List, [], _∷_, _++_, append-nil, append-assoc}
-use mathlib.Core.Bool.{Bool, true, false, cond}
-use mathlib.Core.Logic.{_⊎_, inl, inr}
+use mathlib.Core.List.{List, [], _∷_, _++_, append-assoc}
+use mathlib.Core.Logic.{inl, inr}
 use Prim.Native.Nat.{ℕ, _+_, _^_, _<_, _≤_}
 use native.Mathlib.Omega.{arith}
 use lib.ListN.{length, getD, length-append}
@@ -14,9 +13,9 @@ use Rattle.ticket.specs.declared.record.Record.{Record}
 use Rattle.ticket.specs.declared.record.Record.the-variants.{End}
 use Rattle.ticket.specs.declared.seen.Room.{Room}
 use Rattle.ticket.specs.Records.{big, kind, body, written}
-use Rattle.ticket.specs.Lists.{is, count, Right, Lawful}
-use Rattle.ticket.specs.Refusals.{wrong, Broken, Refuses}
-use Rattle.ticket.proofs.Bytes.{number-big, big-length}
+use Rattle.ticket.specs.Lists.{count, Right, Lawful}
+use Rattle.ticket.specs.Refusals.{wrong, Refuses}
+use Rattle.ticket.proofs.Bytes.{number-big}
 use Rattle.ticket.proofs.Codes.{bodies, Longer, fork}
 use Rattle.ticket.proofs.Rights.{count-append, stands-mid, stands-end, fine}
 

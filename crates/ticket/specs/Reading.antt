@@ -1,9 +1,9 @@
 -- The reader's own steps: what its private functions answer. No public promise names them.
-use mathlib.Core.List.{List, [], _∷_}
-use mathlib.Core.Bool.{Bool, true, false, cond, not, _&&_}
+use mathlib.Core.List.{List}
+use mathlib.Core.Bool.{cond, not, _&&_}
 use Prim.Native.Nat.{ℕ, zero, suc, _+_, suc-le-suc, zero-le}
-use lib.Dec.{ltb, eqb}
-use lib.ListN.{length, getD, set, take, drop, replicate}
+use lib.Dec.{eqb}
+use lib.ListN.{getD, set, take, drop, replicate}
 use Rattle.std.specs.shelf.Digits.{number}
 use Rattle.std.specs.declared.result.Result.{Result}
 use Rattle.std.specs.declared.result.Result.the-variants.{Ok, Err}
@@ -24,7 +24,7 @@ use Rattle.ticket.specs.Kinds.{bodyIn}
 use Rattle.ticket.specs.Numbers.{fieldFault, recordFault, canFault, mapErr}
 use Rattle.ticket.specs.Records.{kind}
 use Rattle.ticket.specs.Lists.{canNumber, says}
-use Rattle.ticket.specs.Refusals.{unknown, cut, misplaced, twice, high, still, full, miscounted}
+use Rattle.ticket.specs.Refusals.{unknown, cut, misplaced, twice, high, still, full}
 
 abbrev pub tally : Seen → ℕ → ℕ
 tally s k = getD (s .counts) k 0

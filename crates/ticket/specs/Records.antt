@@ -3,8 +3,6 @@ use mathlib.Core.Path.{_≡_}
 use mathlib.Core.List.{List, [], _∷_, _++_}
 use Prim.Native.Nat.{ℕ, zero, suc, _^_, _/_, _%_, _<_}
 use Rattle.std.specs.shelf.Lists.{All}
-use Rattle.cursor.specs.declared.stride.Stride.{Stride}
-use Rattle.frame.specs.declared.stroke.Stroke.{Stroke}
 use Rattle.ticket.specs.declared.record.Record.{Record}
 use Rattle.ticket.specs.declared.record.Record.the-variants.{Head, Tint, Purge, Resume, Limit, Every, First, End}
 

@@ -1,6 +1,6 @@
 // The checks of one record, in their order.
 ghost use mathlib.Core.Path.{_≡_};
-ghost use Prim.Native.Nat.{_+_, _^_, _<_, _≤_};
+ghost use Prim.Native.Nat.{_+_, _^_, _<_};
 ghost use lib.ListN.{length};
 ghost use Rattle.std.specs.shelf.Digits.{number};
 ghost use Rattle.ticket.specs.declared.faults.RecordFault.the-variants.{Field};

@@ -1,12 +1,12 @@
-use mathlib.Core.Path.{_≡_, sym, ap, _∙_, subst}
+use mathlib.Core.Path.{ap, _∙_}
 use mathlib.Core.Bool.{true, false}
-use Prim.Native.Nat.{ℕ, _+_}
+use Prim.Native.Nat.{ℕ}
 use native.Mathlib.Omega.{arith}
 use lib.ListN.{getD}
 use Rattle.std.proofs.shelf.Tests.{eq-eqb, ne-eqb}
 use Rattle.ticket.specs.Kinds.{bodyIn}
 use Rattle.ticket.proofs.Codes.{bodies}
-use Rattle.ticket.proofs.Fills.{Filling, filling-none, inside, stroke-is, purge-fits, tint-fits, fills-on, fills-all}
+use Rattle.ticket.proofs.Fills.{filling-none, inside, stroke-is, purge-fits, tint-fits, fills-on, fills-all}
 use Rattle.ticket.proofs.loading.fill.Needs as need
 use Rattle.ticket.proofs.loading.fill.Needs.{in-2, in-3, in-rest}
 

@@ -1,5 +1,5 @@
-use mathlib.Core.Path.{_≡_, sym, ap, _∙_, subst}
-use mathlib.Core.Logic.{inl, inr, _≢_}
+use mathlib.Core.Path.{sym, ap, _∙_, subst}
+use mathlib.Core.Logic.{inr}
 use Prim.Native.Nat.{ℕ, _+_, _<_}
 use native.Mathlib.Omega.{arith}
 use lib.ListN.{length}
@@ -9,11 +9,10 @@ use Rattle.ticket.specs.Reading.{answered}
 use Rattle.ticket.specs.Kinds.{bodyIn}
 use Rattle.ticket.specs.Refusals.{Broken}
 use Rattle.ticket.specs.Records.{kind}
-use Rattle.ticket.specs.Loading.{Judged}
 use Rattle.ticket.specs.Numbers.{canFault}
 use Rattle.ticket.proofs.Bytes.{bytes-under}
 use Rattle.ticket.proofs.Codes.{bodies, end-of}
-use Rattle.ticket.proofs.Turns.{Sofar, sofar-none, small, no-end, stops, goes, inside, spills, ends}
+use Rattle.ticket.proofs.Turns.{Sofar, sofar-none, small, no-end, stops, goes, spills, ends}
 use Rattle.ticket.proofs.loading.judge.Needs as need
 
 pub loop-at-holds : need.loop-at-holds

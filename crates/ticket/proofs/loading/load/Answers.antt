@@ -1,8 +1,4 @@
-use mathlib.Core.Path.{_≡_, refl, sym, ap, _∙_, subst}
 use Rattle.std.proofs.shelf.Results.{err-from-errBy}
-use Rattle.std.proofs.shelf.Tests.{true≢false, false≢true}
-use Rattle.ticket.specs.Loading.{Loading}
-use Rattle.ticket.proofs.Codes.{bodies}
 use Rattle.ticket.proofs.Meanings.{accepts, refuses}
 use Rattle.ticket.proofs.loading.load.Needs as need
 

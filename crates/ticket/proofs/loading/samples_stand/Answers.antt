@@ -5,7 +5,7 @@ use native.Mathlib.Omega.{arith}
 use lib.ListN.{length}
 use Rattle.std.proofs.shelf.Ways.{tells}
 use Rattle.ticket.specs.declared.record.Record.{Record}
-use Rattle.ticket.specs.declared.record.Record.the-variants.{Head, Tint, Purge, Every, End}
+use Rattle.ticket.specs.declared.record.Record.the-variants.{Head, Tint, Purge, Every}
 use Rattle.ticket.specs.Records.{big}
 use Rattle.ticket.specs.Samples.{pour, everyTwo}
 use Rattle.ticket.proofs.Rights.{right-none}

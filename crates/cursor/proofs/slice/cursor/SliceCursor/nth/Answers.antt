@@ -1,7 +1,6 @@
 use mathlib.Core.Path.{_∙_, sym}
 use Prim.Native.Nat.{_+_}
 use native.Mathlib.Omega.{arith}
-use lib.Dec.{ltb}
 use Rattle.std.specs.Finite.{nth}
 use Rattle.std.proofs.shelf.Tests.{ltb-true}
 use Rattle.cursor.proofs.Spans.{left, touching, shown-at, picked, missed, front-rest}
