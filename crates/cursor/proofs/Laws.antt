@@ -46,14 +46,18 @@ pub first-zero : {A : Type 0} (n : ℕ) (r : Row A) → n ≡ 0 → first n r �
 unfolding first bare
 first-zero n r e = fun-ext (λ k. grind (arith, tells))
 
--- a row of l items, cut
-pub length-first : {A : Type 0} (n l : ℕ) (r : Row A) → Length r l → Length (first n r) (min n l)
-unfolding first
-length-first n l r h = record { inside = λ k b. grind (arith, tells, h .inside); outside = λ k b. grind (arith, tells, h .outside) }
+pub first-gone : {A : Type 0} (m n : ℕ) (r : Row A) → n ≤ m → after m (first n r) ≡ bare
+unfolding after first bare
+first-gone m n r h = fun-ext (λ k. grind (arith, tells))
 
-pub length-after : {A : Type 0} (n l : ℕ) (r : Row A) → Length r l → Length (after n r) (l - n)
+-- a row of l items, cut
+pub length-first : {A : Type 0} (n l m : ℕ) (r : Row A) → Length r l → m ≡ min n l → Length (first n r) m
+unfolding first
+length-first n l m r h e = record { inside = λ k b. grind (arith, tells, h .inside); outside = λ k b. grind (arith, tells, h .outside) }
+
+pub length-after : {A : Type 0} (n l m : ℕ) (r : Row A) → Length r l → m ≡ l - n → Length (after n r) m
 unfolding after
-length-after n l r h = record { inside = λ k b. h .inside (n + k) (omega arith); outside = λ k b. h .outside (n + k) (omega arith) }
+length-after n l m r h e = record { inside = λ k b. h .inside (n + k) (omega arith); outside = λ k b. h .outside (n + k) (omega arith) }
 
 pub after-end : {A : Type 0} (n l : ℕ) (r : Row A) → Length r l → l ≤ n → after n r ≡ bare
 unfolding after bare
@@ -93,10 +97,10 @@ unfolding size
 size-length l r h f = let t = taken-length l r (2 ^ 64 - 1) h in omega arith
 
 pub size-after : {A : Type 0} (m l : ℕ) (r : Row A) → Length r l → l < 2 ^ 64 → size (after m r) ≡ l - m
-size-after m l r h f = size-length (l - m) (after m r) (length-after m l r h) (omega arith)
+size-after m l r h f = size-length (l - m) (after m r) (length-after m l (l - m) r h refl) (omega arith)
 
 pub size-first : {A : Type 0} (m l : ℕ) (r : Row A) → Length r l → l < 2 ^ 64 → size (first m r) ≡ min m l
-size-first m l r h f = size-length (min m l) (first m r) (length-first m l r h) (omega arith)
+size-first m l r h f = size-length (min m l) (first m r) (length-first m l (min m l) r h refl) (omega arith)
 
 pub length-is : {A : Type 0} (l m : ℕ) (r : Row A) → Length r l → m ≡ l → Length r m
 length-is l m r h e = subst (Length r) (sym e) h
@@ -104,6 +108,6 @@ length-is l m r h e = subst (Length r) (sym e) h
 -- items at single places; cuts of cuts; lengths of what a cut leaves
 pub ruleset places = (first-in, first-out, at-after, back-in, back-out)
 
-pub ruleset cuts = (after-zero, after-after, after-first, first-first, first-zero, after-end, first-all)
+pub ruleset cuts = (after-zero, after-after, after-first, first-first, first-zero, first-gone, after-end, first-all)
 
 pub ruleset sizes = (length-first, length-after, size-length, size-after, size-first, taken-length, length-is)

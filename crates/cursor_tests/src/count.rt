@@ -6,17 +6,10 @@ use cursor::count::cursor::CountCursor;
 use cursor::count::cursor::CountHoming;
 use cursor::count::cursor::CountTwoEnded;
 use cursor::shortfall::Shortfall;
+use cursor::shortfall::making::lacking;
 use cursor::stride::Stride;
 use cursor::stride::StrideFault;
 use std::test::*;
-
-// By how much an advance fell short, 0 if it is done.
-fn lack(answer: Result<(), Shortfall>) -> u64 {
-    match answer {
-        Ok(()) => 0,
-        Err(shortfall) => shortfall.get(),
-    }
-}
 
 #[test]
 fn never_zero() -> Result<(), Fail> {
@@ -38,9 +31,9 @@ fn empty() -> Result<(), Fail> {
     check_eq(leaf.len(), 0)?;
     check_eq(leaf.next(), None)?;
     check_eq(leaf.nth_back(0), None)?;
-    check_eq(lack(leaf.advance(0)), 0)?;
-    check_eq(lack(leaf.advance(u64::MAX)), u64::MAX)?;
-    check_eq(lack(leaf.advance_back(1)), 1)?;
+    check_eq(lacking(leaf.advance(0)), 0)?;
+    check_eq(lacking(leaf.advance(u64::MAX)), u64::MAX)?;
+    check_eq(lacking(leaf.advance_back(1)), 1)?;
     check_eq((leaf.tally(), leaf.weight()), (5, 1))
 }
 
@@ -63,9 +56,9 @@ fn edges() -> Result<(), Fail> {
     check_eq(CountLeaf::new(1, 6).nth_back(0), Some(5))?;
     check_eq(CountLeaf::new(1, 6).nth_back(4), Some(1))?;
     check_eq(CountLeaf::new(1, 6).nth_back(5), None)?;
-    check_eq(lack(CountLeaf::new(1, 6).advance(5)), 0)?;
-    check_eq(lack(CountLeaf::new(1, 6).advance(7)), 2)?;
-    check_eq(lack(CountLeaf::new(1, 6).advance_back(6)), 1)
+    check_eq(lacking(CountLeaf::new(1, 6).advance(5)), 0)?;
+    check_eq(lacking(CountLeaf::new(1, 6).advance(7)), 2)?;
+    check_eq(lacking(CountLeaf::new(1, 6).advance_back(6)), 1)
 }
 
 // 0 to 2^64 - 1, from both ends.
@@ -77,7 +70,7 @@ fn longest() -> Result<(), Fail> {
     check_eq(leaf.next(), Some(0))?;
     check_eq(leaf.nth(u64::MAX - 4), Some(u64::MAX - 3))?;
     check_eq(leaf.len(), 1)?;
-    check_eq(lack(leaf.advance_back(u64::MAX)), u64::MAX - 1)?;
+    check_eq(lacking(leaf.advance_back(u64::MAX)), u64::MAX - 1)?;
     leaf.restart();
     check_eq(leaf.nth(u64::MAX), None)?;
     check_eq(leaf.len(), 0)

@@ -139,9 +139,6 @@ module _ (room : Room) (bs : List ℕ) (at : ℕ) (s : Seen) (f : Sofar room bs 
       pub goes : kind r ≢ 15 → Sofar room bs next (noted s r)
       goes n = record { rs = f .rs ++ (r ∷ []); right = right-push room (f .rs) r (f .right) stands n; bytes = bytes-on; place = place-on; holds = holds-push s (f .rs) r (f .holds) }
 
-      pub inside : next ≤ length bs
-      inside = omega (arith, ap length left, length-drop at bs, length-append (body r) (drop next bs), body-length r)
-
       -- bytes after the end
       pub spills : kind r ≡ 15 → next < length bs → Broken bodies room bs (canFault 10 next)
       spills e n =

@@ -33,3 +33,13 @@ pub fn short_by(places: u64) -> Result<(), Shortfall>
         Err(Shortfall { places })
     }
 }
+
+// By how many places an advance fell short; 0 if it is done.
+pub fn lacking(answer: Result<(), Shortfall>) -> u64
+    ensures { λ r. ⌜ r ≡ lack answer ⌝ }
+{
+    match answer {
+        Ok(()) => 0,
+        Err(shortfall) => shortfall.get(),
+    }
+}

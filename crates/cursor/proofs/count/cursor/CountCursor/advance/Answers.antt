@@ -9,5 +9,5 @@ returns c =
     record {
       value = front-lack numbers s (numbers-full s) _ _ (c .advance .ensures .value);
       rest = front-rest numbers s _ _ (c .advance .ensures .rest);
-      spent = touching _ _ _ (omega arith) (c .touched-self .ensures);
+      spent = touching (c .args .self .now .tally) (c .touched-self .result) _ (omega arith) (c .touched-self .ensures);
     }

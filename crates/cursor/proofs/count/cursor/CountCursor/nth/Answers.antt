@@ -11,5 +11,5 @@ returns c =
     record {
       value = c .nth .ensures .value ∙ sym (shown-at numbers s (c .args .n));
       rest = front-rest numbers s _ _ (c .nth .ensures .rest);
-      spent = touching _ _ _ (omega arith) (c .touched-self .ensures);
+      spent = touching (c .args .self .now .tally) (c .touched-self .result) _ (omega arith) (c .touched-self .ensures);
     }

@@ -10,5 +10,5 @@ returns c =
     record {
       value = back-lack numbers s f (omega arith) _ _ (c .advance-back .ensures .value);
       rest = back-rest numbers s f (omega arith) _ _ (c .advance-back .ensures .rest);
-      spent = touching _ _ _ (omega arith) (c .touched-self .ensures);
+      spent = touching (c .args .self .now .tally) (c .touched-self .result) _ (omega arith) (c .touched-self .ensures);
     }

@@ -12,5 +12,5 @@ returns c =
     record {
       value = c .nth-back .ensures .value ∙ sym (back-at numbers s f (omega arith) (c .args .n));
       rest = back-rest numbers s f (omega arith) _ _ (c .nth-back .ensures .rest);
-      spent = touching _ _ _ (omega arith) (c .touched-self .ensures);
+      spent = touching (c .args .self .now .tally) (c .touched-self .result) _ (omega arith) (c .touched-self .ensures);
     }

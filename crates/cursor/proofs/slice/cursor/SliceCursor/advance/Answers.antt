@@ -10,5 +10,5 @@ returns g c =
     record {
       value = front-lack (nth xs) s (items-full xs s (c .args .self .now .within)) _ _ (c .advance .ensures .value);
       rest = front-rest (nth xs) s _ _ (c .advance .ensures .rest);
-      spent = touching _ _ _ (omega arith) (c .touched-self .ensures);
+      spent = touching (c .args .self .now .tally) (c .touched-self .result) _ (omega arith) (c .touched-self .ensures);
     }

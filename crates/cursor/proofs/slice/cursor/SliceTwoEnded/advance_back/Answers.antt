@@ -11,5 +11,5 @@ returns g c =
     record {
       value = back-lack (nth xs) s f (omega arith) _ _ (c .advance-back .ensures .value);
       rest = back-rest (nth xs) s f (omega arith) _ _ (c .advance-back .ensures .rest);
-      spent = touching _ _ _ (omega arith) (c .touched-self .ensures);
+      spent = touching (c .args .self .now .tally) (c .touched-self .result) _ (omega arith) (c .touched-self .ensures);
     }
