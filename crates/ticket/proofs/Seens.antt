@@ -14,7 +14,7 @@ use Rattle.ticket.specs.declared.record.Record.{Record}
 use Rattle.ticket.specs.declared.record.Record.the-variants.{Head, Tint, Purge, Resume, Limit, Every, First, End}
 use Rattle.ticket.specs.declared.seen.Seen.{Seen}
 use Rattle.ticket.specs.Records.{kind}
-use Rattle.ticket.specs.Lists.{canNumber, says, is, count, said, Says}
+use Rattle.ticket.specs.Lists.{canOf, says, is, count, said, Says}
 use Rattle.ticket.specs.Reading.{tally, nothing, strideOr, noted, answered}
 use Rattle.ticket.proofs.Codes.{body-some}
 use Rattle.ticket.proofs.Rights.{count-append}
@@ -22,7 +22,7 @@ use Rattle.ticket.proofs.Rights.{count-append}
 pub record Holds (s : Seen) (rs : List Record) : Type 0 where
   pub counts : (k : ℕ) → tally s k ≡ count k rs
   pub kinds : length (s .counts) ≡ 16
-  pub can : s .can ≡ said canNumber 1 0 rs
+  pub can : s .can ≡ said canOf 1 0 rs
   pub size : s .size ≡ said says 1 0 rs
   pub resume : s .resume ≡ said says 4 0 rs
   pub limit : s .limit ≡ said says 5 18446744073709551615 rs
@@ -72,7 +72,7 @@ module _ (s : Seen) (rs : List Record) (r : Record) (h : Holds s rs) where
   holds-push = record {
     counts = counted;
     kinds = length-set (s .counts) (kind r) (tally s (kind r) + 1) ∙ h .kinds;
-    can = follows canNumber 1 0 (s .can) (h .can);
+    can = follows canOf 1 0 (s .can) (h .can);
     size = follows says 1 0 (s .size) (h .size);
     resume = follows says 4 0 (s .resume) (h .resume);
     limit = follows says 5 18446744073709551615 (s .limit) (h .limit);

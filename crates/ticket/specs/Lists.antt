@@ -1,4 +1,5 @@
 -- What a ticket says, and what makes it lawful, in its author's words.
+-- Kinds go by their numbers: 1 head, 2 tint, 3 purge, 4 resume, 5 limit, 6 stride, 7 first canister, 15 end.
 use mathlib.Core.Path.{_≡_}
 use mathlib.Core.List.{List, [], _∷_, _++_}
 use mathlib.Core.Bool.{Bool, true, false, cond}
@@ -26,15 +27,15 @@ says (First n) = n
 says (End n) = n
 
 -- the can's number that a head says
-abbrev pub canNumber : Record → ℕ
-canNumber (Head c n) = c
-canNumber (Tint x) = 0
-canNumber (Purge x) = 0
-canNumber (Resume n) = 0
-canNumber (Limit n) = 0
-canNumber (Every s) = 0
-canNumber (First n) = 0
-canNumber (End n) = 0
+abbrev pub canOf : Record → ℕ
+canOf (Head c n) = c
+canOf (Tint x) = 0
+canOf (Purge x) = 0
+canOf (Resume n) = 0
+canOf (Limit n) = 0
+canOf (Every s) = 0
+canOf (First n) = 0
+canOf (End n) = 0
 
 -- the stroke that a tint or a purge says
 abbrev pub stroke : Record → Stroke
@@ -55,16 +56,17 @@ abbrev pub count : ℕ → List Record → ℕ
 count k [] = 0
 count k (r ∷ rs) = is k r + count k rs
 
--- what the record of kind k says by f, d if there is none
+-- what the record of kind k says by f, d if there is none; of several the last, though a lawful ticket has but one
 abbrev pub said : (Record → ℕ) → ℕ → ℕ → List Record → ℕ
 said f k d [] = d
 said f k d (r ∷ rs) = said f k (cond (eqb (kind r) k) (f r) d) rs
 
--- the strokes of kind k, in ticket order
+-- a stroke before others, or only those
 abbrev pub keep : Bool → Stroke → List Stroke → List Stroke
 keep true x xs = x ∷ xs
 keep false x xs = xs
 
+-- the strokes of kind k, in ticket order
 abbrev pub strokes : ℕ → List Record → List Stroke
 strokes k [] = []
 strokes k (r ∷ rs) = keep (eqb (kind r) k) (stroke r) (strokes k rs)
@@ -91,7 +93,9 @@ pub record Right (room : Room) (rs : List Record) : Type 0 where
   pub unended : count 15 rs ≡ 0
   pub fits : All Fits rs
   pub allowed : All Allowed rs
+  -- each setting at most once
   pub once : (k : ℕ) → 4 ≤ k → k ≤ 7 → count k rs ≤ 1
+  -- the tables have an entry for each stroke
   pub purges : count 3 rs ≤ room .purges
   pub tints : count 2 rs ≤ room .tints
 
@@ -107,7 +111,7 @@ pub record Lawful (room : Room) (rs : List Record) : Type 0 where
 pub record Says (rs : List Record) (l : Loaded) : Type 0 where
   pub purges : l .purges ≡ count 3 rs
   pub tints : l .tints ≡ count 2 rs
-  pub can : l .can ≡ said canNumber 1 0 rs
+  pub can : l .can ≡ said canOf 1 0 rs
   pub size : l .size ≡ said says 1 0 rs
   pub resume : l .resume ≡ said says 4 0 rs
   pub limit : l .limit ≡ said says 5 18446744073709551615 rs

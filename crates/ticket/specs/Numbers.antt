@@ -12,6 +12,7 @@ use Rattle.ticket.specs.declared.faults.RecordFault.the-variants.{Unknown, Cut
 use Rattle.ticket.specs.declared.faults.CanFault.{CanFault}
 use Rattle.ticket.specs.declared.faults.CanFault.the-variants.{TooLong, Misplaced, Twice, Full, Count, After, NoEnd, Record}
 
+-- numbers, layer by layer
 abbrev pub fieldNumber : FieldFault → ℕ
 fieldNumber ZeroStride = 1
 fieldNumber High = 7
@@ -31,6 +32,7 @@ canNumber (After p) = 10
 canNumber (NoEnd p) = 11
 canNumber (Record f p) = recordNumber f
 
+-- where in the ticket
 abbrev pub canPlace : CanFault → ℕ
 canPlace (TooLong p) = p
 canPlace (Misplaced p) = p

@@ -23,7 +23,7 @@ use Rattle.ticket.specs.declared.seen.Seen.{Seen}
 use Rattle.ticket.specs.Kinds.{bodyIn}
 use Rattle.ticket.specs.Numbers.{fieldFault, recordFault, canFault, mapErr}
 use Rattle.ticket.specs.Records.{kind}
-use Rattle.ticket.specs.Lists.{canNumber, says}
+use Rattle.ticket.specs.Lists.{canOf, says}
 use Rattle.ticket.specs.Refusals.{unknown, cut, misplaced, twice, high, still, full}
 
 abbrev pub tally : Seen → ℕ → ℕ
@@ -103,7 +103,7 @@ strideOr (End n) d = d
 abbrev pub noted : Seen → Entry → Seen
 noted s r = record {
   counts = set (s .counts) (kind r) (getD (s .counts) (kind r) 0 + 1);
-  can = cond (eqb (kind r) 1) (canNumber r) (s .can);
+  can = cond (eqb (kind r) 1) (canOf r) (s .can);
   size = cond (eqb (kind r) 1) (says r) (s .size);
   resume = cond (eqb (kind r) 4) (says r) (s .resume);
   limit = cond (eqb (kind r) 5) (says r) (s .limit);

@@ -26,7 +26,7 @@ unknown table k = eqb (bodyIn table k) 0
 abbrev pub cut : List ℕ → ℕ → List ℕ → Bool
 cut table k zs = ltb (length zs) (bodyIn table k)
 
--- it is the first and no head, or a head and not the first
+-- no head stands before it and it is none, so it is the first and no head; or one does, and it is another
 abbrev pub misplaced : (ℕ → ℕ) → ℕ → Bool
 misplaced c k = cond (eqb (c 1) 0) (not (eqb k 1)) (eqb k 1)
 
