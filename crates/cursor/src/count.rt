@@ -4,7 +4,7 @@ use crate::span::Span;
 pub mod cursor;
 
 // The numbers from lo up to hi - 1; none unless hi is above lo.
-#[derive(Clone, Copy)]
+#[derive(Drop)]
 pub struct CountLeaf {
     bounds: Span,
     // the bounds that a restart brings back

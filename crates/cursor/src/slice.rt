@@ -7,7 +7,7 @@ use crate::span::Span;
 pub mod cursor;
 
 // The items of the slice at the places within the bounds.
-#[derive(Copy)]
+#[derive(Drop)]
 pub struct SliceLeaf<'a, T: Copy> {
     items: &'a [T],
     bounds: Span,

@@ -48,8 +48,8 @@ pub enum CanFault {
 pub impl From<StrideFault> for FieldFault as FieldFromStride {
     ghost converts = { λ _ r. r ≡ ZeroStride };
 
-    fn from(fault: StrideFault) -> FieldFault {
-        match fault {
+    fn from(stride: StrideFault) -> FieldFault {
+        match stride {
             StrideFault::Zero => FieldFault::ZeroStride,
         }
     }
@@ -58,8 +58,8 @@ pub impl From<StrideFault> for FieldFault as FieldFromStride {
 pub impl From<FieldFault> for RecordFault as RecordFromField {
     ghost converts = { λ f r. r ≡ Field f };
 
-    fn from(fault: FieldFault) -> RecordFault {
-        RecordFault::Field(fault)
+    fn from(field: FieldFault) -> RecordFault {
+        RecordFault::Field(field)
     }
 }
 
@@ -67,8 +67,8 @@ pub impl From<FieldFault> for RecordFault as RecordFromField {
 pub impl From<(RecordFault, usize)> for CanFault as CanFromRecord {
     ghost converts = { λ f r. r ≡ Record (f .0) (f .1) };
 
-    fn from(fault: (RecordFault, usize)) -> CanFault {
-        CanFault::Record(fault.0, fault.1)
+    fn from(record: (RecordFault, usize)) -> CanFault {
+        CanFault::Record(record.0, record.1)
     }
 }
 
