@@ -1,4 +1,7 @@
 // Take, Skip and Chain, as a newcomer would try them.
+
+#![tactic(auto)]
+
 #[cfg(test)]
 mod chains;
 #[cfg(test)]

@@ -5,6 +5,9 @@
 // one frame. Both take a bounded number of steps and no heap.
 //
 // What holds over a bus's whole past, `Lawful` of specs/Law.antt, stands on `new`, `put` and `exchange`.
+
+#![tactic(auto)]
+
 ghost use Rattle.std.specs.Prelude.{◌≡◌};
 ghost use Rattle.cursor.specs.Calls.{capped};
 ghost use Rattle.bus.specs.State.{meant};

@@ -1,4 +1,7 @@
 // The bus over piles of leaves, as a newcomer would try it.
+
+#![tactic(auto)]
+
 #[cfg(test)]
 mod calls;
 #[cfg(test)]

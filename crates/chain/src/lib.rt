@@ -2,6 +2,9 @@
 //
 // The cut at 2^64 - 1 items is made once: `left` counts the items that are still to be shown, so what was cut off does not
 // come back when others have been taken. A back call leaves what it takes behind the last item that is shown.
+
+#![tactic(auto)]
+
 ghost use Rattle.std.specs.Prelude.{◌≡◌, ◌+◌, ◌-◌, ◌^◌};
 ghost use Rattle.cursor.specs.Rows.{first, join};
 ghost use Rattle.cursor.specs.Closing.{closed_first, closed_join};

@@ -4,6 +4,9 @@
 // with no cursor below it; an adapter stands over others; a pile is a cursor with all that lies below it. A touch is one
 // call of a leaf other than `len`, `tally` and `weight`. The interfaces have no bodies: an implementation says what it
 // means by the ghost members, and writes every call.
+
+#![tactic(auto)]
+
 ghost use Rattle.std.specs.Prelude.{◌≡◌, ℕ, ◌+◌, ◌-◌};
 ghost use Rattle.cursor.specs.Rows.{Row, Closed, Length, bare, after, first, taken, size, back};
 ghost use Rattle.cursor.specs.Calls.{Free, Spent, capped, lack};
@@ -72,26 +75,26 @@ pub trait Cursor {
 pub trait TwoEnded: Cursor {
     // The number of items.
     fn len(&self) -> u64
-        ensures value { result ≡ size (row self.now) }
-        ensures whole { Length (row self.now) result };
+        ensures value { result ≡ size (Self.Cursor.row self.now) }
+        ensures whole { Length (Self.Cursor.row self.now) result };
 
     // The last item.
     fn next_back(&mut self) -> Option<Self::Item>
-        ensures value { result ≡ back (row self.old) 0 }
-        ensures rest { row self.new ≡ first (size (row self.old) - 1) (row self.old) }
-        ensures spent { Spent weight touch (tally self.old) (tally self.new) (home self.old) (home self.new) };
+        ensures value { result ≡ back (Self.Cursor.row self.old) 0 }
+        ensures rest { Self.Cursor.row self.new ≡ first (size (Self.Cursor.row self.old) - 1) (Self.Cursor.row self.old) }
+        ensures spent { Spent Self.weight Self.touch (Self.tally self.old) (Self.tally self.new) (Self.home self.old) (Self.home self.new) };
 
     // The item at place n from the back; it and all behind it are taken.
     fn nth_back(&mut self, n: u64) -> Option<Self::Item>
-        ensures value { result ≡ back (row self.old) n }
-        ensures rest { row self.new ≡ first (size (row self.old) - (n + 1)) (row self.old) }
-        ensures spent { Spent weight touch (tally self.old) (tally self.new) (home self.old) (home self.new) };
+        ensures value { result ≡ back (Self.Cursor.row self.old) n }
+        ensures rest { Self.Cursor.row self.new ≡ first (size (Self.Cursor.row self.old) - (n + 1)) (Self.Cursor.row self.old) }
+        ensures spent { Spent Self.weight Self.touch (Self.tally self.old) (Self.tally self.new) (Self.home self.old) (Self.home self.new) };
 
     // Takes the last n items, or all; answers how many there were too few.
     fn advance_back(&mut self, n: u64) -> Result<(), Shortfall>
-        ensures value { lack result ≡ n - size (row self.old) }
-        ensures rest { row self.new ≡ first (size (row self.old) - n) (row self.old) }
-        ensures spent { Spent weight touch (tally self.old) (tally self.new) (home self.old) (home self.new) };
+        ensures value { lack result ≡ n - size (Self.Cursor.row self.old) }
+        ensures rest { Self.Cursor.row self.new ≡ first (size (Self.Cursor.row self.old) - n) (Self.Cursor.row self.old) }
+        ensures spent { Spent Self.weight Self.touch (Self.tally self.old) (Self.tally self.new) (Self.home self.old) (Self.home self.new) };
 }
 
 // A cursor that can be sent back to a row that it was marked at.
@@ -99,10 +102,10 @@ pub trait Homing: TwoEnded {
     // The present row becomes the home.
     fn mark(&mut self)
         ensures rest { Self.Cursor.row self.new ≡ Self.Cursor.row self.old }
-        ensures spent { Spent Self.Cursor.weight Self.Cursor.touch (Self.Cursor.tally self.old) (Self.Cursor.tally self.new) (Self.Cursor.row self.old) (Self.Cursor.home self.new) };
+        ensures spent { Spent Self.weight Self.touch (Self.tally self.old) (Self.tally self.new) (Self.Cursor.row self.old) (Self.home self.new) };
 
     // The home becomes the present row.
     fn restart(&mut self)
-        ensures rest { Self.Cursor.row self.new ≡ Self.Cursor.home self.old }
-        ensures spent { Spent Self.Cursor.weight Self.Cursor.touch (Self.Cursor.tally self.old) (Self.Cursor.tally self.new) (Self.Cursor.home self.old) (Self.Cursor.home self.new) };
+        ensures rest { Self.Cursor.row self.new ≡ Self.home self.old }
+        ensures spent { Spent Self.weight Self.touch (Self.tally self.old) (Self.tally self.new) (Self.home self.old) (Self.home self.new) };
 }

@@ -1,4 +1,7 @@
 // Skip: the cursor below it without its first n items. Carried over from core::iter's skip.rs.
+
+#![tactic(auto)]
+
 ghost use Rattle.std.specs.Prelude.{◌≡◌, ◌*◌};
 ghost use Rattle.cursor.specs.Rows.{after};
 ghost use Rattle.cursor.specs.Closing.{closed_after};

@@ -1,4 +1,7 @@
 // Take: the first n items of the cursor below it. Carried over from core::iter's take.rs.
+
+#![tactic(auto)]
+
 ghost use Rattle.std.specs.Prelude.{◌≡◌};
 ghost use Rattle.cursor.specs.Rows.{first};
 ghost use Rattle.cursor.specs.Closing.{closed_first};

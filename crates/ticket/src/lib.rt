@@ -1,4 +1,7 @@
 // Tickets: loaded entire, or refused by a number with everything left as it was.
+
+#![tactic(auto)]
+
 mod checks;
 pub mod faults;
 pub mod kinds;

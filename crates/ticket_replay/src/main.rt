@@ -1,5 +1,8 @@
 // Loads each ticket of tickets.bin and prints the answer, one line a ticket. What it must print was written by another
 // reading of the format, in Python: tools/README.md says how.
+
+#![tactic(auto)]
+
 use frame::stroke::Stroke;
 use std::{fs, io};
 use ticket::faults::CanFault;

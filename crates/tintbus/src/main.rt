@@ -1,4 +1,7 @@
 // Reads ticket.bin in the folder where it is started, loads it, and says in plain words what it holds or why it is refused.
+
+#![tactic(auto)]
+
 ghost use Rattle.std.specs.Prelude.{◌≤◌, length, IfOk};
 
 use frame::stroke::Stroke;

@@ -1,4 +1,7 @@
 // Loads a sample ticket, and walks its valve row from both ends.
+
+#![tactic(auto)]
+
 use frame::stroke::Stroke;
 use std::io;
 use ticket::loading::load;

@@ -36,9 +36,9 @@ returns-then-n-b-shown g c =
     let x : c.min-b-shown.result ≡ min q (left - min l left) = omega arith in
     let s = size_length q t i c.len-b-len.type-inv in
     record {
-      value = chain_last l r t h c.len-a-len.type-inv q left i c.len-b-len.type-inv (omega arith) c.args.n (q - c.min-b-shown.result + c.args.n) _ (omega arith) (omega arith) c.nth-back.ensures.value;
-      rest = chain_back l r t h c.len-a-len.type-inv q left i c.len-b-len.type-inv (omega arith) (c.args.n + 1) _ r _ l (size t - (q - c.min-b-shown.result + c.args.n + 1)) (omega arith) (sym (first_all l l r h (omega arith))) c.nth-back.ensures.rest (inr (omega arith)) (omega arith);
-      spent = both c.args.self.now.home (unspent _ _ _) c.nth-back.ensures.spent;
+      value = chain_last l r t h c.len-a-len.type-inv q left i c.len-b-len.type-inv (omega arith) c.args.n (q - c.min-b-shown.result + c.args.n) _ (omega arith) (omega arith) c.nth_back.ensures.value;
+      rest = chain_back l r t h c.len-a-len.type-inv q left i c.len-b-len.type-inv (omega arith) (c.args.n + 1) _ r _ l (size t - (q - c.min-b-shown.result + c.args.n + 1)) (omega arith) (sym (first_all l l r h (omega arith))) c.nth_back.ensures.rest (inr (omega arith)) (omega arith);
+      spent = both c.args.self.now.home (unspent _ _ _) c.nth_back.ensures.spent;
     }
 
 pub returns-else-n-b-shown : goal.returns-else-n-b-shown
@@ -54,7 +54,7 @@ returns-else-n-b-shown g c =
     let x : c.min-b-shown.result ≡ min q (left - min l left) = omega arith in
     let s = size_length l r h c.len-a-len.type-inv in
     record {
-      value = chain_first l r t h c.len-a-len.type-inv q left i c.len-b-len.type-inv (omega arith) c.args.n (l - c.min-a-shown.result + (c.args.n - c.min-b-shown.result)) _ (omega arith) (omega arith) (omega arith) c.nth-back-else-n-b-shown.ensures.value;
-      rest = chain_back l r t h c.len-a-len.type-inv q left i c.len-b-len.type-inv (omega arith) (c.args.n + 1) _ _ t (size r - (l - c.min-a-shown.result + (c.args.n - c.min-b-shown.result) + 1)) q (omega arith) c.nth-back-else-n-b-shown.ensures.rest (sym (first_all q q t i (omega arith))) (inl (omega arith)) (omega arith);
-      spent = both c.args.self.now.home c.nth-back-else-n-b-shown.ensures.spent (unspent _ _ _);
+      value = chain_first l r t h c.len-a-len.type-inv q left i c.len-b-len.type-inv (omega arith) c.args.n (l - c.min-a-shown.result + (c.args.n - c.min-b-shown.result)) _ (omega arith) (omega arith) (omega arith) c.nth_back-else-n-b-shown.ensures.value;
+      rest = chain_back l r t h c.len-a-len.type-inv q left i c.len-b-len.type-inv (omega arith) (c.args.n + 1) _ _ t (size r - (l - c.min-a-shown.result + (c.args.n - c.min-b-shown.result) + 1)) q (omega arith) c.nth_back-else-n-b-shown.ensures.rest (sym (first_all q q t i (omega arith))) (inl (omega arith)) (omega arith);
+      spent = both c.args.self.now.home c.nth_back-else-n-b-shown.ensures.spent (unspent _ _ _);
     }

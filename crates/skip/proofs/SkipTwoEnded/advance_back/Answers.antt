@@ -12,6 +12,6 @@ returns g c =
     let s = size_after n c.len.result r c.len.ensures.whole c.len.type-inv in
     record {
       value = omega arith;
-      rest = skip_left n c.len.result r c.len.ensures.whole c.len.type-inv c.min-most.result c.args.n _ c.advance-back.ensures.rest (omega arith);
-      spent = widely (after c.args.self.now.home) c.advance-back.ensures.spent;
+      rest = skip_left n c.len.result r c.len.ensures.whole c.len.type-inv c.min-most.result c.args.n _ c.advance_back.ensures.rest (omega arith);
+      spent = widely (after c.args.self.now.home) c.advance_back.ensures.spent;
     }

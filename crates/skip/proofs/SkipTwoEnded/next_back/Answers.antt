@@ -9,9 +9,9 @@ returns-then-len-self g c =
     let r = g.C.Cursor.row c.args.self.now.iter in
     let n = c.args.self.now.n in
     record {
-      value = skip_item n c.len.result r c.len.ensures.whole c.len.type-inv 0 c.next-back.result (omega arith) c.next-back.ensures.value;
-      rest = skip_left n c.len.result r c.len.ensures.whole c.len.type-inv 1 1 _ c.next-back.ensures.rest (omega arith);
-      spent = widely (after c.args.self.now.home) c.next-back.ensures.spent;
+      value = skip_item n c.len.result r c.len.ensures.whole c.len.type-inv 0 c.next_back.result (omega arith) c.next_back.ensures.value;
+      rest = skip_left n c.len.result r c.len.ensures.whole c.len.type-inv 1 1 _ c.next_back.ensures.rest (omega arith);
+      spent = widely (after c.args.self.now.home) c.next_back.ensures.spent;
     }
 
 pub returns-else-len-self : goal.returns-else-len-self

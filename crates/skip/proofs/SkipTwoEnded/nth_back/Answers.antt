@@ -9,9 +9,9 @@ returns-then-n-len g c =
     let r = g.C.Cursor.row c.args.self.now.iter in
     let n = c.args.self.now.n in
     record {
-      value = skip_item n c.len.result r c.len.ensures.whole c.len.type-inv c.args.n c.nth-back.result (omega arith) c.nth-back.ensures.value;
-      rest = skip_left n c.len.result r c.len.ensures.whole c.len.type-inv (c.args.n + 1) (c.args.n + 1) _ c.nth-back.ensures.rest (omega arith);
-      spent = widely (after c.args.self.now.home) c.nth-back.ensures.spent;
+      value = skip_item n c.len.result r c.len.ensures.whole c.len.type-inv c.args.n c.nth_back.result (omega arith) c.nth_back.ensures.value;
+      rest = skip_left n c.len.result r c.len.ensures.whole c.len.type-inv (c.args.n + 1) (c.args.n + 1) _ c.nth_back.ensures.rest (omega arith);
+      spent = widely (after c.args.self.now.home) c.nth_back.ensures.spent;
     }
 
 pub returns-then-len-gt0 : goal.returns-then-len-gt0
@@ -20,8 +20,8 @@ returns-then-len-gt0 g c =
     let n = c.args.self.now.n in
     record {
       value = skip_gone n c.len.result r c.len.ensures.whole c.len.type-inv c.args.n (omega arith);
-      rest = skip_left n c.len.result r c.len.ensures.whole c.len.type-inv c.saturating-sub-len.result (c.args.n + 1) _ c.advance-back.ensures.rest (omega arith);
-      spent = widely (after c.args.self.now.home) c.advance-back.ensures.spent;
+      rest = skip_left n c.len.result r c.len.ensures.whole c.len.type-inv c.saturating-sub-len.result (c.args.n + 1) _ c.advance_back.ensures.rest (omega arith);
+      spent = widely (after c.args.self.now.home) c.advance_back.ensures.spent;
     }
 
 pub returns-else-len-gt0 : goal.returns-else-len-gt0

@@ -16,6 +16,6 @@ returns g c =
     let t = take_trim n c.args.n c.len.result o c.saturating-add-most.result a c.len.type-inv c.saturating-sub-over.ensures c.saturating-add-most.ensures (omega arith) in
     record {
       value = omega arith;
-      rest = take_left n c.len.result r c.len.ensures.whole c.len.type-inv (n - a) c.saturating-add-most.result c.args.n _ c.advance-back.ensures.rest t.1;
-      spent = passed (first c.args.self.now.home) c.advance-back.ensures.spent;
+      rest = take_left n c.len.result r c.len.ensures.whole c.len.type-inv (n - a) c.saturating-add-most.result c.args.n _ c.advance_back.ensures.rest t.1;
+      spent = passed (first c.args.self.now.home) c.advance_back.ensures.spent;
     }

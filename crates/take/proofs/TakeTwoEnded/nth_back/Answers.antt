@@ -9,9 +9,9 @@ returns-then-self-n g c =
     let r = g.C.Cursor.row c.args.self.now.iter in
     let n = c.args.self.now.n in
     record {
-      value = take_item n c.len-len.result r c.len-len.ensures.whole c.len-len.type-inv c.args.n (c.saturating-sub-over.result + c.args.n) c.nth-back.result (omega arith) (omega arith) c.nth-back.ensures.value;
-      rest = take_left n c.len-len.result r c.len-len.ensures.whole c.len-len.type-inv (n - (c.args.n + 1)) (c.saturating-sub-over.result + c.args.n + 1) (c.args.n + 1) _ c.nth-back.ensures.rest (omega arith);
-      spent = passed (first c.args.self.now.home) c.nth-back.ensures.spent;
+      value = take_item n c.len-len.result r c.len-len.ensures.whole c.len-len.type-inv c.args.n (c.saturating-sub-over.result + c.args.n) c.nth_back.result (omega arith) (omega arith) c.nth_back.ensures.value;
+      rest = take_left n c.len-len.result r c.len-len.ensures.whole c.len-len.type-inv (n - (c.args.n + 1)) (c.saturating-sub-over.result + c.args.n + 1) (c.args.n + 1) _ c.nth_back.ensures.rest (omega arith);
+      spent = passed (first c.args.self.now.home) c.nth_back.ensures.spent;
     }
 
 pub returns-then-len-gt0 : goal.returns-then-len-gt0
@@ -20,8 +20,8 @@ returns-then-len-gt0 g c =
     let n = c.args.self.now.n in
     record {
       value = take_gone n c.len-len.result r c.len-len.ensures.whole c.len-len.type-inv c.args.n (omega arith);
-      rest = take_left n c.len-len.result r c.len-len.ensures.whole c.len-len.type-inv n c.len-len.result (c.args.n + 1) _ c.advance-back.ensures.rest (omega arith);
-      spent = passed (first c.args.self.now.home) c.advance-back.ensures.spent;
+      rest = take_left n c.len-len.result r c.len-len.ensures.whole c.len-len.type-inv n c.len-len.result (c.args.n + 1) _ c.advance_back.ensures.rest (omega arith);
+      spent = passed (first c.args.self.now.home) c.advance_back.ensures.spent;
     }
 
 pub returns-else-len-gt0 : goal.returns-else-len-gt0

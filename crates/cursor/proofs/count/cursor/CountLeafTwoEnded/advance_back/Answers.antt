@@ -8,7 +8,7 @@ returns c =
     let s = c.args.self.now.bounds in
     let f = numbers_full s in
     record {
-      value = back_lack numbers s f (omega arith) _ _ c.advance-back.ensures.value;
-      rest = back_rest numbers s f (omega arith) _ _ c.advance-back.ensures.rest;
+      value = back_lack numbers s f (omega arith) _ _ c.advance_back.ensures.value;
+      rest = back_rest numbers s f (omega arith) _ _ c.advance_back.ensures.rest;
       spent = touching c.args.self.now.tally c.touched-self.result _ (omega arith) c.touched-self.ensures;
     }

@@ -9,7 +9,7 @@ returns c =
     let s = c.args.self.now.bounds in
     let f = numbers_full s in
     record {
-      value = c.nth-back.ensures.value ∙ sym (back_is numbers s f (omega arith) c.args.n);
-      rest = back_rest numbers s f (omega arith) _ _ c.nth-back.ensures.rest;
+      value = c.nth_back.ensures.value ∙ sym (back_is numbers s f (omega arith) c.args.n);
+      rest = back_rest numbers s f (omega arith) _ _ c.nth_back.ensures.rest;
       spent = touching c.args.self.now.tally c.touched-self.result _ (omega arith) c.touched-self.ensures;
     }

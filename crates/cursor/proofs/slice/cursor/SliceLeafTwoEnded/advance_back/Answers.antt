@@ -9,7 +9,7 @@ returns g c =
     let s = c.args.self.now.bounds in
     let f = items_full xs s c.args.self.now.within in
     record {
-      value = back_lack (slice_get xs) s f (omega arith) _ _ c.advance-back.ensures.value;
-      rest = back_rest (slice_get xs) s f (omega arith) _ _ c.advance-back.ensures.rest;
+      value = back_lack (slice_get xs) s f (omega arith) _ _ c.advance_back.ensures.value;
+      rest = back_rest (slice_get xs) s f (omega arith) _ _ c.advance_back.ensures.rest;
       spent = touching c.args.self.now.tally c.touched-self.result _ (omega arith) c.touched-self.ensures;
     }

@@ -12,7 +12,7 @@ returns-in-Some g c =
     let f = items_full xs s c.args.self.now.within in
     record {
       value = picked xs (ltb n (left (slice_get xs) s)) (s.hi - (n + 1)) _ _ (λ t. let h = ltb-true n (left (slice_get xs) s) t in omega (arith, c.args.self.now.within)) c.in-Some.ensures.value ∙ sym (back_is (slice_get xs) s f (omega arith) n);
-      rest = back_rest (slice_get xs) s f (omega arith) _ _ c.nth-back.ensures.rest;
+      rest = back_rest (slice_get xs) s f (omega arith) _ _ c.nth_back.ensures.rest;
       spent = touching c.args.self.now.tally c.touched-self.result _ (omega arith) c.touched-self.ensures;
     }
 
@@ -24,6 +24,6 @@ returns-in-None g c =
     let f = items_full xs s c.args.self.now.within in
     record {
       value = missed (slice_get xs) (ltb n (left (slice_get xs) s)) (s.hi - (n + 1)) c.in-None.ensures.value ∙ sym (back_is (slice_get xs) s f (omega arith) n);
-      rest = back_rest (slice_get xs) s f (omega arith) _ _ c.nth-back.ensures.rest;
+      rest = back_rest (slice_get xs) s f (omega arith) _ _ c.nth_back.ensures.rest;
       spent = touching c.args.self.now.tally c.touched-self.result _ (omega arith) c.touched-self.ensures;
     }
