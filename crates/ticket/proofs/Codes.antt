@@ -1,6 +1,6 @@
 -- A record can be told from its bytes.
 use Rattle.std.proofs.Common.{◌≡◌, ℕ, zero, suc, ◌+◌, ◌^◌, ◌<◌, false, ◌⊎◌, List, [], ◌∷◌, ◌++◌, length, get_or, take, drop, sym, refl, ap, ◌∙◌, ap₂, inl, inr, append_assoc, append-nil, suc-le-suc, zero-le, not-suc-le-zero, arith, length-append, length-drop, take-append-drop, length-take-le, take_all, take_at, drop_at}
-use Rattle.std.specs.List.{AllByRecursion as All}
+use Rattle.std.specs.List.{AllByRecursion}
 use Rattle.std.specs.Int.Digits.{AllBelowBase, number_from_digits}
 use Rattle.std.proofs.ByRecursion.{All-take, All-drop}
 use Rattle.std.proofs.lemmas.Bool.{ltb-false, eqb-false}
@@ -166,7 +166,7 @@ pub record Longer (rs ss : List Record) (ys zs : List ℕ) : Type 0 where
   pub left : ys ≡ kind next ∷ (body next ++ (written rest ++ zs))
 
 -- two lists of records that the same bytes begin with are the same, or one goes on where the other stops
-pub fork : (rs ss : List Record) (ys zs : List ℕ) → All Fits rs → All Fits ss → written rs ++ ys ≡ written ss ++ zs
+pub fork : (rs ss : List Record) (ys zs : List ℕ) → AllByRecursion Fits rs → AllByRecursion Fits ss → written rs ++ ys ≡ written ss ++ zs
     → ((rs ≡ ss) × (ys ≡ zs)) ⊎ (Longer rs ss ys zs ⊎ Longer ss rs zs ys)
 fork [] [] ys zs f g e = inl (refl, e)
 fork [] (s ∷ ss) ys zs f g e = inr (inl (record { next = s; rest = ss; list = refl; left = e ∙ ap (λ (xs : List ℕ). kind s ∷ xs) (append_assoc (body s) (written ss) zs) }))

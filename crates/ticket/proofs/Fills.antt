@@ -1,7 +1,7 @@
 -- The tables while a lawful ticket's strokes are written to them.
 use Rattle.std.proofs.Common.{◌≡◌, ℕ, ◌+◌, ◌-◌, ◌<◌, ◌≤◌, Bool, true, false, cond, eqb, List, [], ◌∷◌, ◌++◌, length, get_or, take, drop, set, sym, refl, ap, ◌∙◌, subst, ap₂, add-zero, zero-add, add-one, arith, length-append, length-drop, length-set, get_or-drop, drop-drop, take_at, drop_at}
 use lib.Seq.{sets, sets-eq}
-use Rattle.std.specs.List.{AllByRecursion as All}
+use Rattle.std.specs.List.{AllByRecursion}
 use Rattle.std.proofs.ByRecursion.{All-push}
 use Rattle.std.proofs.lemmas.List.{drop_all}
 use Rattle.std.proofs.lemmas.Bool.{eq-eqb}
@@ -59,16 +59,16 @@ table_on false k rs r qs old now i e t =
 pub record Filling (bs : List ℕ) (P0 T0 : List Stroke) (at p t : ℕ) (P T : List Stroke) : Type 0 where
   pub rs : List Record
   pub qs : List Record
-  pub fits : All Fits rs
+  pub fits : AllByRecursion Fits rs
   pub bytes : written rs ≡ bs
   pub left : drop at bs ≡ written qs
-  pub left_fits : All Fits qs
+  pub left_fits : AllByRecursion Fits qs
   pub purges : Table 3 rs qs P0 P p
   pub tints : Table 2 rs qs T0 T t
 
 -- each record of a lawful ticket fits its bytes
-pub lawful_fits : (room : Room) (rs : List Record) → Lawful room rs → All Fits rs
-lawful_fits room rs l = subst (All Fits) (sym l.ends) (All-push Fits l.inner (End (count 2 l.inner + count 3 l.inner)) l.right.fits (end_fits room rs l))
+pub lawful_fits : (room : Room) (rs : List Record) → Lawful room rs → AllByRecursion Fits rs
+lawful_fits room rs l = subst (AllByRecursion Fits) (sym l.ends) (All-push Fits l.inner (End (count 2 l.inner + count 3 l.inner)) l.right.fits (end_fits room rs l))
 
 -- and its tables have room for its strokes
 pub lawful_room : (room : Room) (rs : List Record) → Lawful room rs → (count 3 rs ≤ room.purges) × (count 2 rs ≤ room.tints)
@@ -122,8 +122,8 @@ module _ (bs : List ℕ) (P0 T0 : List Stroke) (at p t : ℕ) (P T : List Stroke
   abbrev ss : List Record
   ss = here.1
 
-  fits_here : Fits r × All Fits ss
-  fits_here = subst (All Fits) here.2 f.left-fits
+  fits_here : Fits r × AllByRecursion Fits ss
+  fits_here = subst (AllByRecursion Fits) here.2 f.left_fits
 
   here_is : drop at bs ≡ kind r ∷ (body r ++ written ss)
   here_is = f.left ∙ ap written here.2
@@ -178,7 +178,7 @@ none_left (r ∷ qs) e = absurd (omega (arith, ap length e))
 
 -- all is written
 pub fills_all : (bs : List ℕ) (P0 T0 : List Stroke) (at p t : ℕ) (P T : List Stroke) → Filling bs P0 T0 at p t P T → length bs ≤ at
-    → (rs : List Record) → All Fits rs → written rs ≡ bs → (P ≡ filled 3 rs P0) × (T ≡ filled 2 rs T0)
+    → (rs : List Record) → AllByRecursion Fits rs → written rs ≡ bs → (P ≡ filled 3 rs P0) × (T ≡ filled 2 rs T0)
 fills_all bs P0 T0 at p t P T f h rs g w =
     let e : f.rs ≡ rs = unique f.rs rs f.fits g (f.bytes ∙ sym w) in
     let n : f.qs ≡ [] = none_left f.qs (sym f.left ∙ drop_all at bs h) in (

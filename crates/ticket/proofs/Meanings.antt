@@ -1,6 +1,6 @@
 -- An answer that is true is the only one, so loading answers exactly so.
 use Rattle.std.proofs.Common.{◌≡◌, ℕ, ◌≤◌, List, length, Ok, Err, Result, sym, refl, ap, ◌∙◌, subst, arith}
-use Rattle.std.specs.List.{AllByRecursion as All}
+use Rattle.std.specs.List.{AllByRecursion}
 use Rattle.std.proofs.lemmas.Bool.{true≢false, false≢true}
 use Rattle.frame.specs.declared.stroke.Stroke.{Stroke}
 use Rattle.ticket.specs.declared.faults.CanFault.{CanFault}
@@ -40,7 +40,7 @@ within table bs ps ps' ts ts' l h =
 
 module _ (bs : List ℕ) (ps ts : List Stroke) where
   pub accepts : (ps' ts' : List Stroke) (l : Loaded) → Judged bodies (room_of ps ts) bs (Ok l)
-      → ((rs : List Record) → All Fits rs → written rs ≡ bs → (ps' ≡ filled 3 rs ps) × (ts' ≡ filled 2 rs ts)) → Loading bodies bs ps ps' ts ts' (Ok l)
+      → ((rs : List Record) → AllByRecursion Fits rs → written rs ≡ bs → (ps' ≡ filled 3 rs ps) × (ts' ≡ filled 2 rs ts)) → Loading bodies bs ps ps' ts ts' (Ok l)
   accepts ps' ts' l j fill =
       let room = room_of ps ts in
       record {

@@ -1,6 +1,6 @@
 -- Right records, one after another: what may stand behind them, and what is wrong where nothing may.
 use Rattle.std.proofs.Common.{◌≡◌, ℕ, ◌+◌, ◌^◌, ◌<◌, Bool, false, cond, not, eqb, ◌≢◌, List, [], ◌∷◌, ◌++◌, length, Some, None, refl, ap, ◌∙◌, arith, length-append, take_at}
-use Rattle.std.specs.List.{AllByRecursion as All}
+use Rattle.std.specs.List.{AllByRecursion}
 use Rattle.std.specs.Int.Digits.{number_from_digits}
 use Rattle.std.proofs.ByRecursion.{All-push}
 use Rattle.std.proofs.lemmas.Bool.{eq-eqb, ne_eqb, le-ltb, eqb-true, not-false}
@@ -21,7 +21,7 @@ pub count_append : (k : ℕ) (rs ss : List Record) → count k (rs ++ ss) ≡ co
 count_append k [] ss = omega arith
 count_append k (r ∷ rs) ss = omega (arith, count_append k rs ss)
 
-all_mid : (P : Record → Type 0) (rs : List Record) (r : Record) (ss : List Record) → All P (rs ++ (r ∷ ss)) → P r
+all_mid : (P : Record → Type 0) (rs : List Record) (r : Record) (ss : List Record) → AllByRecursion P (rs ++ (r ∷ ss)) → P r
 all_mid P [] r ss h = h.0
 all_mid P (x ∷ rs) r ss h = all_mid P rs r ss h.1
 
@@ -108,7 +108,7 @@ fine room c p r zs s e =
     let l = body_length r in
     let some = (body_some r).0 in
     let long = length-append (body r) zs in
-    let off : All Off (faults bodies room c p (kind r) (body r ++ zs) (body r)) = (
+    let off : AllByRecursion Off (faults bodies room c p (kind r) (body r ++ zs) (body r)) = (
       ne_eqb (body_in bodies (kind r)) 0 (λ z. omega arith),
       (
         le-ltb (length (body r ++ zs)) (body_in bodies (kind r)) (omega arith),

@@ -1,6 +1,6 @@
 -- The checks of one record, one after another, give the first fault of the list.
 use Rattle.std.proofs.Common.{◌≡◌, ℕ, ◌-◌, ◌<◌, Bool, true, false, cond, ◌⊎◌, List, [], ◌∷◌, ◌++◌, length, take, Some, Ok, Err, Result, sym, refl, ap, ◌∙◌, subst, inl, inr, arith, length-take-le}
-use Rattle.std.specs.List.{AllByRecursion as All}
+use Rattle.std.specs.List.{AllByRecursion}
 use Rattle.std.specs.Int.Digits.{AllBelowBase}
 use Rattle.std.proofs.ByRecursion.{All-append, All-take}
 use Rattle.std.proofs.lemmas.Bool.{ltb-false, eqb-false}
@@ -67,7 +67,7 @@ err_e e = Err e
 abbrev Ends : List (Bool × CanFault) → Result Entry CanFault → Type 0
 Ends xs v =
     ((e : CanFault) × (ladder xs v ≡ err_e e) × ((ws : List (Bool × CanFault)) → first_of (xs ++ ws) ≡ Some e))
-    ⊎ ((ladder xs v ≡ v) × All Off xs)
+    ⊎ ((ladder xs v ≡ v) × AllByRecursion Off xs)
 
 climb_on : (b : Bool) (e : CanFault) (xs : List (Bool × CanFault)) (v : Result Entry CanFault) → Ends xs v → Ends ((b, e) ∷ xs) v
 climb_on true e xs v q = inl (e, refl, λ ws. refl)
@@ -78,7 +78,7 @@ climb : (xs : List (Bool × CanFault)) (v : Result Entry CanFault) → Ends xs v
 climb [] v = inr (refl, tt)
 climb (x ∷ xs) v = climb_on x.0 x.1 xs v (climb xs v)
 
-pub skip : (xs ws : List (Bool × CanFault)) → All Off xs → first_of (xs ++ ws) ≡ first_of ws
+pub skip : (xs ws : List (Bool × CanFault)) → AllByRecursion Off xs → first_of (xs ++ ws) ≡ first_of ws
 skip [] ws h = refl
 skip (x ∷ xs) ws h = ap (λ (b : Bool). cond b (Some x.1) (first_of (xs ++ ws))) h.0 ∙ skip xs ws h.1
 
@@ -127,7 +127,7 @@ module _ (room : Room) (c : ℕ → ℕ) (p k : ℕ) (zs : List ℕ) where
 
   -- a record without a fault
   pub record Passed (r : Entry) : Type 0 where
-    pub off : All Off (faults bodies room c p k zs xs)
+    pub off : AllByRecursion Off (faults bodies room c p k zs xs)
     pub place : misplaced c k ≡ false
     pub fresh : twice c k ≡ false
     pub free : full room c k ≡ false

@@ -97,7 +97,7 @@ module _ (room : Room) (bs : List ℕ) (at : ℕ) (s : Seen) (f : Sofar room bs 
       passed = told_here (Ok r) q
 
       kind_here : k ≡ kind r
-      kind_here = sym passed.coded.kind-is
+      kind_here = sym passed.coded.kind_is
 
       stands : Stands room (λ j. count j f.rs) r
       stands =

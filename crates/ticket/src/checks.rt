@@ -53,7 +53,7 @@ pub fn stroke(body: &[u8]) -> Stroke
 
 // How long the body is, of a record that is known and whole; `tail` is all that stands behind the kind byte.
 fn frame(kind: u8, tail: &[u8]) -> Result<usize, RecordFault>
-    ensures* { do ⌜ result ≡ framed (← (⟦BODIES⟧).entry) kind tail.now ⌝ }
+    ensures { result ≡ framed BODIES kind tail.now }
 {
     match body_len(kind) {
         UNKNOWN => Err(RecordFault::Unknown),
@@ -64,7 +64,7 @@ fn frame(kind: u8, tail: &[u8]) -> Result<usize, RecordFault>
 
 // What a whole record says.
 fn field(kind: u8, body: &[u8]) -> Result<Record, FieldFault>
-    requires* body_value { do ⌜ length body.now ≡ body_in (← ⟦BODIES⟧) kind ⌝ }
+    requires body_value { length body.now ≡ body_in BODIES kind }
     requires body_nonzero { 0 < length body.now }
     ensures { result ≡ fielded kind body.now }
 {
@@ -83,7 +83,7 @@ fn field(kind: u8, body: &[u8]) -> Result<Record, FieldFault>
 
 // The same as a record's answer.
 fn content(kind: u8, body: &[u8]) -> Result<Record, RecordFault>
-    requires* body_value { do ⌜ length body.now ≡ body_in (← ⟦BODIES⟧) kind ⌝ }
+    requires body_value { length body.now ≡ body_in BODIES kind }
     requires body_nonzero { 0 < length body.now }
     ensures { result ≡ map_err Field (fielded kind body.now) }
 {
@@ -123,7 +123,7 @@ impl Seen {
     // The record that stands at a place behind those seen so far, or its first fault.
     pub fn next(&self, kind: u8, tail: &[u8], place: usize, room: Room) -> Result<Record, CanFault>
         requires { tally self.now 2 + tally self.now 3 < 2 ^ 32 }
-        ensures* { do ⌜ result ≡ stepped (← (⟦BODIES⟧).entry) room (tally self.now) place kind tail.now ⌝ }
+        ensures { result ≡ stepped BODIES room (tally self.now) place kind tail.now }
     {
         let len = at(frame(kind, tail), place)?;
         self.order(kind, place)?;

@@ -25,7 +25,7 @@ pub const BODIES: [u8; 15] = [
 ];
 
 pub fn body_len(kind: u8) -> u8
-    ensures* { do ⌜ result ≡ body_in (← (⟦BODIES⟧).entry) kind ⌝ }
+    ensures { result ≡ body_in BODIES kind }
 {
     match kind {
         0x01..=0x0F => BODIES[kind as usize - 1],

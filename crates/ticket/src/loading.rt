@@ -1,7 +1,7 @@
 // Loads a ticket entire, or refuses it and leaves everything as it was.
 ghost use Rattle.std.specs.Prelude.{◌≡◌, List};
 ghost use Rattle.ticket.specs.declared.record.Record.{Record};
-ghost use Rattle.std.specs.List.{AllByRecursion as All};
+ghost use Rattle.std.specs.List.{AllByRecursion};
 ghost use Rattle.ticket.specs.Records.{written, Fits, Unambiguous};
 ghost use Rattle.ticket.specs.Samples.{Samples};
 ghost use Rattle.ticket.specs.Loading.{room_of, filled, Spells, Loading, Judged};
@@ -19,7 +19,7 @@ pub const LIMIT: usize = 32768;
 
 // What a ticket says, or its first fault. Writes nothing.
 fn judge(bytes: &[u8], room: Room) -> Result<Loaded, CanFault>
-    ensures* { do ⌜ Judged (← (⟦BODIES⟧).entry) room bytes.now result ⌝ }
+    ensures { Judged BODIES room bytes.now result }
 {
     if bytes.len() > LIMIT {
         return Err(CanFault::TooLong(LIMIT));
@@ -43,7 +43,7 @@ fn judge(bytes: &[u8], room: Room) -> Result<Loaded, CanFault>
 // Writes the strokes of a lawful ticket to the tables.
 fn fill(bytes: &[u8], purges: &mut [Stroke], tints: &mut [Stroke])
     requires { Spells (room_of purges.old tints.old) bytes.now }
-    ensures { (rs : List Record) → All Fits rs → written rs ≡ bytes.now
+    ensures { (rs : List Record) → AllByRecursion Fits rs → written rs ≡ bytes.now
         → (purges.new ≡ filled 3 rs purges.old) × (tints.new ≡ filled 2 rs tints.old) }
 {
     let mut at = 0;
@@ -71,9 +71,8 @@ fn fill(bytes: &[u8], purges: &mut [Stroke], tints: &mut [Stroke])
 // Loads a ticket: its purges and tints go to the starts of their tables, in ticket order, and the answer is what else it
 // says. A ticket that is not lawful is refused, and both tables stay as they were.
 pub fn load(bytes: &[u8], purges: &mut [Stroke], tints: &mut [Stroke]) -> Result<Loaded, CanFault>
-    ensures* { do
-      ⌜ Loading (← (⟦BODIES⟧).entry) bytes.now
-          purges.old purges.new tints.old tints.new result ⌝ }
+    ensures { Loading BODIES bytes.now
+          purges.old purges.new tints.old tints.new result }
 {
     let loaded = judge(
         bytes,
@@ -95,7 +94,7 @@ pub fn unambiguous() -> u8
 
 // The worked examples of the format's pages, on the definitions.
 pub fn samples_stand() -> u8
-    ensures* { do ⌜ Samples (← (⟦BODIES⟧).entry) ⌝ }
+    ensures { Samples BODIES }
 {
     0
 }

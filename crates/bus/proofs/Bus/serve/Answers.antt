@@ -27,10 +27,10 @@ returns-in-Stir g c = record {
       (stir_called g.V.Cursor g.L.Cursor g.S.Cursor c.args.self.now c.next.new.self c.ask-front.new.pile (widened c.in-Stir.request) c.ask-front.ensures.called);
 }
 
-pub returns-in-default : goal.returns-in-default
-returns-in-default g c = record {
+pub returns-in_default : goal.returns-in_default
+returns-in_default g c = record {
   line = search rules;
   done = exchanged _ _ _ None (turn_of c.next.result) c.args.out.now _ 1 (omega arith)
-      (ap turn_of c.in-default.is) c.next.ensures.value c.next.ensures.rest (search rules) (search rules)
+      (ap turn_of c.in_default.is) c.next.ensures.value c.next.ensures.rest (search rules) (search rules)
       (none_called g.V.Cursor g.L.Cursor g.S.Cursor c.args.self.now c.next.new.self);
 }

@@ -23,7 +23,7 @@ returns-then-n-len g c =
     let t = g.R.Cursor.row c.args.self.now.b in
     let left = c.args.self.now.left in
     let k = g.L.Cursor.closed c.args.self.now.a in
-    let s = size_length c.len-len.result r c.len-len.ensures.whole c.len-len.type-inv in
+    let s = size_length c.len-len.result r c.len-len.ensures.whole c.len-len.type_inv in
     record {
       value = chain_here left r t k (omega arith) c.args.n _ (omega arith) (omega arith) c.nth.ensures.value;
       rest = chain_front left (left - (c.args.n + 1)) (c.args.n + 1) r t _ t k (omega arith) refl c.nth.ensures.rest (sym (after_zero (c.args.n + 1 - size r) t (omega arith)));
@@ -37,7 +37,7 @@ returns-else-n-len g c =
     let left = c.args.self.now.left in
     let k = g.L.Cursor.closed c.args.self.now.a in
     let l = c.len-len.result in
-    let s = size_length l r c.len-len.ensures.whole c.len-len.type-inv in
+    let s = size_length l r c.len-len.ensures.whole c.len-len.type_inv in
     record {
       value = chain_there left r t k (omega arith) c.args.n (c.args.n - l) _ (omega arith) (omega arith) (omega arith) c.nth-else-n-len.ensures.value;
       rest = chain_front left (left - (c.args.n + 1)) (c.args.n + 1) r t _ _ k (omega arith) refl

@@ -9,30 +9,30 @@ use Rattle.skip.proofs.SkipCursor.advance.Goals.{else-lack-eq0-via-then-lack-eq0
 pub returns-then-left-gt0 : goal.returns-then-left-gt0
 returns-then-left-gt0 g c =
     let r = g.C.Cursor.row c.args.self.now.iter in
-    let b = c.saturating-add-both.result in
+    let b = c.saturating_add-both.result in
     let a = b - c.lacking-lack.result in
     let l = taken_le r b in
-    let t = skip_twice r (g.C.Cursor.closed c.args.self.now.iter) c.args.self.now.n c.args.n b a c.saturating-add-both.ensures (omega arith) (omega arith) (c.args.n - c.saturating-sub.result) _ _ (omega arith) c.advance.ensures.rest (omega arith) c.advance-then-left-gt0.ensures.rest in
+    let t = skip_twice r (g.C.Cursor.closed c.args.self.now.iter) c.args.self.now.n c.args.n b a c.saturating_add-both.ensures (omega arith) (omega arith) (c.args.n - c.saturating_sub.result) _ _ (omega arith) c.advance.ensures.rest (omega arith) c.advance-then-left-gt0.ensures.rest in
     record {
       value = c.advance-then-left-gt0.ensures.value ∙ t.0;
-      rest = ap (λ (k : ℕ). after k (g.C.Cursor.row c.advance-then-left-gt0.new.self)) c.saturating-sub-self.ensures ∙ t.1;
+      rest = ap (λ (k : ℕ). after k (g.C.Cursor.row c.advance-then-left-gt0.new.self)) c.saturating_sub-self.ensures ∙ t.1;
       spent = twice (after c.args.self.now.home) c.advance.ensures.spent c.advance-then-left-gt0.ensures.spent;
     }
 
 pub returns-else-lack-eq0 : goal.returns-else-lack-eq0
 returns-else-lack-eq0 g c =
     let r = g.C.Cursor.row c.args.self.now.iter in
-    let b = c.saturating-add-both.result in
+    let b = c.saturating_add-both.result in
     let a = b - c.lacking-lack.result in
-    let x = c.args.n - c.saturating-sub.result in
+    let x = c.args.n - c.saturating_sub.result in
     let l = taken_le r b in
     let d : (a < b) ⊎ (x ≡ 0) = elim c.else-lack-eq0.branch [
       | else-lack-eq0-via-then-lack-eq0+else-left-gt0 w ↦ inr (omega (arith, w.if-left-gt0.false))
       | else-lack-eq0-via-else-lack-eq0 w ↦ inl (omega (arith, w.if-lack-eq0.false))
     ] in
-    let t = skip_once r (g.C.Cursor.closed c.args.self.now.iter) c.args.self.now.n c.args.n b a c.saturating-add-both.ensures (omega arith) (omega arith) x _ (omega arith) c.advance.ensures.rest d in
+    let t = skip_once r (g.C.Cursor.closed c.args.self.now.iter) c.args.self.now.n c.args.n b a c.saturating_add-both.ensures (omega arith) (omega arith) x _ (omega arith) c.advance.ensures.rest d in
     record {
-      value = c.short-by.ensures ∙ t.0;
-      rest = ap (λ (k : ℕ). after k (g.C.Cursor.row c.advance.new.self)) c.saturating-sub-self.ensures ∙ t.1;
+      value = c.short_by.ensures ∙ t.0;
+      rest = ap (λ (k : ℕ). after k (g.C.Cursor.row c.advance.new.self)) c.saturating_sub-self.ensures ∙ t.1;
       spent = widely (after c.args.self.now.home) c.advance.ensures.spent;
     }

@@ -9,9 +9,9 @@ pub returns : goal.returns
 returns g c =
     let r = g.C.Cursor.row c.args.self.now.iter in
     let n = c.args.self.now.n in
-    let s = size_after n c.len.result r c.len.ensures.whole c.len.type-inv in
+    let s = size_after n c.len.result r c.len.ensures.whole c.len.type_inv in
     record {
       value = omega arith;
-      rest = skip_left n c.len.result r c.len.ensures.whole c.len.type-inv c.min-most.result c.args.n _ c.advance_back.ensures.rest (omega arith);
+      rest = skip_left n c.len.result r c.len.ensures.whole c.len.type_inv c.min-most.result c.args.n _ c.advance_back.ensures.rest (omega arith);
       spent = widely (after c.args.self.now.home) c.advance_back.ensures.spent;
     }

@@ -9,8 +9,8 @@ returns-then-n-len g c =
     let r = g.C.Cursor.row c.args.self.now.iter in
     let n = c.args.self.now.n in
     record {
-      value = skip_item n c.len.result r c.len.ensures.whole c.len.type-inv c.args.n c.nth_back.result (omega arith) c.nth_back.ensures.value;
-      rest = skip_left n c.len.result r c.len.ensures.whole c.len.type-inv (c.args.n + 1) (c.args.n + 1) _ c.nth_back.ensures.rest (omega arith);
+      value = skip_item n c.len.result r c.len.ensures.whole c.len.type_inv c.args.n c.nth_back.result (omega arith) c.nth_back.ensures.value;
+      rest = skip_left n c.len.result r c.len.ensures.whole c.len.type_inv (c.args.n + 1) (c.args.n + 1) _ c.nth_back.ensures.rest (omega arith);
       spent = widely (after c.args.self.now.home) c.nth_back.ensures.spent;
     }
 
@@ -19,8 +19,8 @@ returns-then-len-gt0 g c =
     let r = g.C.Cursor.row c.args.self.now.iter in
     let n = c.args.self.now.n in
     record {
-      value = skip_gone n c.len.result r c.len.ensures.whole c.len.type-inv c.args.n (omega arith);
-      rest = skip_left n c.len.result r c.len.ensures.whole c.len.type-inv c.saturating-sub-len.result (c.args.n + 1) _ c.advance_back.ensures.rest (omega arith);
+      value = skip_gone n c.len.result r c.len.ensures.whole c.len.type_inv c.args.n (omega arith);
+      rest = skip_left n c.len.result r c.len.ensures.whole c.len.type_inv c.saturating_sub-len.result (c.args.n + 1) _ c.advance_back.ensures.rest (omega arith);
       spent = widely (after c.args.self.now.home) c.advance_back.ensures.spent;
     }
 
@@ -29,7 +29,7 @@ returns-else-len-gt0 g c =
     let r = g.C.Cursor.row c.args.self.now.iter in
     let n = c.args.self.now.n in
     record {
-      value = skip_gone n c.len.result r c.len.ensures.whole c.len.type-inv c.args.n (omega arith);
-      rest = skip_still n c.len.result r c.len.ensures.whole c.len.type-inv (omega arith) (c.args.n + 1);
+      value = skip_gone n c.len.result r c.len.ensures.whole c.len.type_inv c.args.n (omega arith);
+      rest = skip_still n c.len.result r c.len.ensures.whole c.len.type_inv (omega arith) (c.args.n + 1);
       spent = unspent _ _ _;
     }

@@ -12,7 +12,7 @@ returns-else-self-eq0 g c =
     let r = g.C.Cursor.row c.args.self.now.iter in
     let n = c.args.self.now.n in
     record {
-      value = take_item n c.len.result r c.len.ensures.whole c.len.type-inv 0 c.saturating-sub-over.result c.nth_back.result (omega arith) (omega arith) c.nth_back.ensures.value;
-      rest = take_left n c.len.result r c.len.ensures.whole c.len.type-inv (n - 1) (c.saturating-sub-over.result + 1) 1 _ c.nth_back.ensures.rest (omega arith);
+      value = take_item n c.len.result r c.len.ensures.whole c.len.type_inv 0 c.saturating_sub-over.result c.nth_back.result (omega arith) (omega arith) c.nth_back.ensures.value;
+      rest = take_left n c.len.result r c.len.ensures.whole c.len.type_inv (n - 1) (c.saturating_sub-over.result + 1) 1 _ c.nth_back.ensures.rest (omega arith);
       spent = passed (first c.args.self.now.home) c.nth_back.ensures.spent;
     }

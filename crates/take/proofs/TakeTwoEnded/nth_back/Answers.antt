@@ -9,8 +9,8 @@ returns-then-self-n g c =
     let r = g.C.Cursor.row c.args.self.now.iter in
     let n = c.args.self.now.n in
     record {
-      value = take_item n c.len-len.result r c.len-len.ensures.whole c.len-len.type-inv c.args.n (c.saturating-sub-over.result + c.args.n) c.nth_back.result (omega arith) (omega arith) c.nth_back.ensures.value;
-      rest = take_left n c.len-len.result r c.len-len.ensures.whole c.len-len.type-inv (n - (c.args.n + 1)) (c.saturating-sub-over.result + c.args.n + 1) (c.args.n + 1) _ c.nth_back.ensures.rest (omega arith);
+      value = take_item n c.len-len.result r c.len-len.ensures.whole c.len-len.type_inv c.args.n (c.saturating_sub-over.result + c.args.n) c.nth_back.result (omega arith) (omega arith) c.nth_back.ensures.value;
+      rest = take_left n c.len-len.result r c.len-len.ensures.whole c.len-len.type_inv (n - (c.args.n + 1)) (c.saturating_sub-over.result + c.args.n + 1) (c.args.n + 1) _ c.nth_back.ensures.rest (omega arith);
       spent = passed (first c.args.self.now.home) c.nth_back.ensures.spent;
     }
 
@@ -19,8 +19,8 @@ returns-then-len-gt0 g c =
     let r = g.C.Cursor.row c.args.self.now.iter in
     let n = c.args.self.now.n in
     record {
-      value = take_gone n c.len-len.result r c.len-len.ensures.whole c.len-len.type-inv c.args.n (omega arith);
-      rest = take_left n c.len-len.result r c.len-len.ensures.whole c.len-len.type-inv n c.len-len.result (c.args.n + 1) _ c.advance_back.ensures.rest (omega arith);
+      value = take_gone n c.len-len.result r c.len-len.ensures.whole c.len-len.type_inv c.args.n (omega arith);
+      rest = take_left n c.len-len.result r c.len-len.ensures.whole c.len-len.type_inv n c.len-len.result (c.args.n + 1) _ c.advance_back.ensures.rest (omega arith);
       spent = passed (first c.args.self.now.home) c.advance_back.ensures.spent;
     }
 
@@ -29,7 +29,7 @@ returns-else-len-gt0 g c =
     let r = g.C.Cursor.row c.args.self.now.iter in
     let n = c.args.self.now.n in
     record {
-      value = take_gone n c.len-len.result r c.len-len.ensures.whole c.len-len.type-inv c.args.n (omega arith);
-      rest = take_still n c.len-len.result r c.len-len.ensures.whole c.len-len.type-inv (omega arith) (c.args.n + 1);
+      value = take_gone n c.len-len.result r c.len-len.ensures.whole c.len-len.type_inv c.args.n (omega arith);
+      rest = take_still n c.len-len.result r c.len-len.ensures.whole c.len-len.type_inv (omega arith) (c.args.n + 1);
       spent = unspent _ _ _;
     }
