@@ -54,7 +54,7 @@ where
     // A bus of three piles, with nobody waiting.
     pub fn new(valve: V, label: L, stir: S) -> Bus<V, L, S>
         ensures made { result ≡ fresh valve label stir }
-        ensures law { NewLaw V.Cursor L.Cursor S.Cursor Item-as-Framed-1 Item-as-Framed-2 Item-as-Framed-3 result }
+        ensures law { NewLaw V.Cursor L.Cursor S.Cursor V.Item.Framed L.Item.Framed S.Item.Framed result }
     {
         // That a two-ended row ends is what `len` promises; asking is no touch.
         let _ = valve.len();
@@ -74,8 +74,8 @@ where
 
     // Places a request, and answers the party that now waits. Next and next_back ignore n.
     pub fn put(&mut self, party: u8, call: u8, n: u64) -> Result<Party, Fault>
-        ensures done { PutSays V.Cursor L.Cursor S.Cursor Item-as-Framed-1 Item-as-Framed-2 Item-as-Framed-3 self.old party call n result self.new }
-        ensures law { PutLaw V.Cursor L.Cursor S.Cursor Item-as-Framed-1 Item-as-Framed-2 Item-as-Framed-3 self.old party call n result self.new }
+        ensures done { PutSays V.Cursor L.Cursor S.Cursor V.Item.Framed L.Item.Framed S.Item.Framed self.old party call n result self.new }
+        ensures law { PutLaw V.Cursor L.Cursor S.Cursor V.Item.Framed L.Item.Framed S.Item.Framed self.old party call n result self.new }
     {
         self.place(party, call, n)
     }
@@ -84,8 +84,8 @@ where
     // rest, and answers the frame's length.
     pub fn exchange(&mut self, line: &mut Line, out: &mut [u8]) -> Result<usize, Fault>
         ensures line { line.new ≡ line.old }
-        ensures done { ExchangeSays V.Cursor L.Cursor S.Cursor Item-as-Framed-1 Item-as-Framed-2 Item-as-Framed-3 self.old out.old result out.new self.new }
-        ensures law { ExchangeLaw V.Cursor L.Cursor S.Cursor Item-as-Framed-1 Item-as-Framed-2 Item-as-Framed-3 self.old out.old result out.new self.new }
+        ensures done { ExchangeSays V.Cursor L.Cursor S.Cursor V.Item.Framed L.Item.Framed S.Item.Framed self.old out.old result out.new self.new }
+        ensures law { ExchangeLaw V.Cursor L.Cursor S.Cursor V.Item.Framed L.Item.Framed S.Item.Framed self.old out.old result out.new self.new }
     {
         self.serve(line, out)
     }
@@ -100,7 +100,7 @@ where
 
     // The code of `put`; the law is shown once, of its one answer there.
     fn place(&mut self, party: u8, call: u8, n: u64) -> Result<Party, Fault>
-        ensures { PutSays V.Cursor L.Cursor S.Cursor Item-as-Framed-1 Item-as-Framed-2 Item-as-Framed-3 self.old party call n result self.new }
+        ensures { PutSays V.Cursor L.Cursor S.Cursor V.Item.Framed L.Item.Framed S.Item.Framed self.old party call n result self.new }
     {
         let Some(party) = Party::of(party) else {
             return Err(Fault::UnknownParty);
@@ -114,7 +114,7 @@ where
     // The code of `exchange`, likewise.
     fn serve(&mut self, line: &mut Line, out: &mut [u8]) -> Result<usize, Fault>
         ensures line { line.new ≡ line.old }
-        ensures done { ExchangeSays V.Cursor L.Cursor S.Cursor Item-as-Framed-1 Item-as-Framed-2 Item-as-Framed-3 self.old out.old result out.new self.new }
+        ensures done { ExchangeSays V.Cursor L.Cursor S.Cursor V.Item.Framed L.Item.Framed S.Item.Framed self.old out.old result out.new self.new }
     {
         if out.len() < ROOM {
             return Err(Fault::Short);

@@ -28,7 +28,7 @@ where
     L::Item: Framed,
     S::Item: Framed,
     ensures line { line.new ≡ line.old }
-    ensures done { StepSays V.Cursor L.Cursor S.Cursor Item-as-Framed-1 Item-as-Framed-2 Item-as-Framed-3 bus.old out.old step bus.new out.new }
+    ensures done { StepSays V.Cursor L.Cursor S.Cursor V.Item.Framed L.Item.Framed S.Item.Framed bus.old out.old step bus.new out.new }
 {
     match step {
         Step::Put(party, call, n) => {
@@ -55,7 +55,7 @@ where
     L::Item: Framed,
     S::Item: Framed,
     ensures line { line.new ≡ line.old }
-    ensures law { RunSays V.Cursor L.Cursor S.Cursor Item-as-Framed-1 Item-as-Framed-2 Item-as-Framed-3 (fresh valve label stir) out.old steps.now result out.new }
+    ensures law { RunSays V.Cursor L.Cursor S.Cursor V.Item.Framed L.Item.Framed S.Item.Framed (fresh valve label stir) out.old steps.now result out.new }
 {
     let mut bus = Bus::new(valve, label, stir);
     for step in steps {

@@ -6,7 +6,7 @@ use Rattle.bus.proofs.Bus.new.Goals as goal
 pub returns : goal.returns
 returns g c = record {
   made = refl;
-  law = starts _ (apts _ _ _ g.Item-as-Framed-1-met.free g.Item-as-Framed-1-met.told g.Item-as-Framed-2-met.free g.Item-as-Framed-2-met.told g.Item-as-Framed-3-met.free g.Item-as-Framed-3-met.told)
+  law = starts _ (apts _ _ _ g.met.V.Item.Framed.free g.met.V.Item.Framed.told g.met.L.Item.Framed.free g.met.L.Item.Framed.told g.met.S.Item.Framed.free g.met.S.Item.Framed.told)
       _ (new_bus g.V.Cursor g.L.Cursor g.S.Cursor c.args.valve c.args.label c.args.stir c.len.result c.len-2.result
       c.len.ensures.value c.len.ensures.whole c.len-2.ensures.value c.len-2.ensures.whole);
 }

@@ -24,7 +24,7 @@ returns-in-Stir g c = record {
   line = c.show-in-Stir.ensures.line;
   done = exchanged _ _ _ _ (turn_of (Some c.in-Some.turn)) c.args.out.now c.show-in-Stir.new.out c.show-in-Stir.result (omega arith)
       (ap (λ t. turn_of (Some t)) c.in-Stir.is) c.in-Some.ensures.value c.in-Some.ensures.rest (search rules) (search rules)
-      (stir_called g.V.Cursor g.L.Cursor g.S.Cursor c.args.self.now c.next.new.self c.ask-front.new.pile (widened c.in-Stir.request) c.ask-front.ensures.called);
+      (stir_called g.V.Cursor g.L.Cursor g.S.Cursor c.args.self.now c.next.new.self c.ask_front.new.pile (widened c.in-Stir.request) c.ask_front.ensures.called);
 }
 
 pub returns-in_default : goal.returns-in_default
