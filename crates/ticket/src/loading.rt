@@ -72,7 +72,7 @@ fn fill(bytes: &[u8], purges: &mut [Stroke], tints: &mut [Stroke])
 // says. A ticket that is not lawful is refused, and both tables stay as they were.
 pub fn load(bytes: &[u8], purges: &mut [Stroke], tints: &mut [Stroke]) -> Result<Loaded, CanFault>
     ensures { Loading BODIES bytes.now
-          purges.old purges.new tints.old tints.new result }
+        purges.old purges.new tints.old tints.new result }
 {
     let loaded = judge(
         bytes,
