@@ -8,6 +8,7 @@ use frame::stroke::Stroke;
 use std::fs::File;
 use std::io;
 use std::io::Read;
+use std::process::ExitCode;
 use ticket::loading::load;
 
 mod words;
@@ -39,13 +40,13 @@ fn read_file(rt: &HostRuntime, name: &str, buf: &mut [u8]) -> io::Result<usize>
     read_into(&mut file, buf)
 }
 
-fn main(rt: HostRuntime) -> io::Result<()> {
+fn main(rt: HostRuntime) -> io::Result<ExitCode> {
     let mut ticket = [0u8; TICKET_BYTES];
     let n = match read_file(&rt, "ticket.bin", &mut ticket) {
         Ok(n) => n,
         Err(e) => {
             eprintln!(rt; "tintbus: cannot read ticket.bin: {e}")?;
-            return Err(e);
+            return Ok(ExitCode::FAILURE);
         }
     };
     let mut purges = [Stroke {
@@ -60,8 +61,9 @@ fn main(rt: HostRuntime) -> io::Result<()> {
         Ok(loaded) => {
             words::show_settings(&rt, &loaded)?;
             words::show_strokes(&rt, "Purges", &purges[0..loaded.purges])?;
-            words::show_strokes(&rt, "Tints", &tints[0..loaded.tints])
+            words::show_strokes(&rt, "Tints", &tints[0..loaded.tints])?;
         }
-        Err(fault) => words::show_refusal(&rt, fault),
+        Err(fault) => words::show_refusal(&rt, fault)?,
     }
+    Ok(ExitCode::SUCCESS)
 }
