@@ -11,7 +11,7 @@ pub trait Framed {
     // the body's length, 1 to 8 bytes
     const BODY: usize;
 
-    // A clause cannot cite a constant of a type parameter, so each constant has a ghost member, and a method that answers it.
+    // Each constant has a ghost member, which clauses cite, and a method that answers it.
     ghost kind: { ℕ };
 
     ghost size: { ℕ };
