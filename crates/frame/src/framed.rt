@@ -11,31 +11,25 @@ pub trait Framed {
     // the body's length, 1 to 8 bytes
     const BODY: usize;
 
-    // Each constant has a ghost member, which clauses cite, and a method that answers it.
-    ghost kind: { ℕ };
+    // The same two, as clauses name them.
+    ghost KIND: { ℕ };
 
-    ghost size: { ℕ };
+    ghost BODY: { ℕ };
 
     ghost body: { Self → List ℕ };
 
-    fn kind_byte() -> u8
-        ensures { result ≡ kind };
-
-    fn body_len() -> usize
-        ensures { result ≡ size };
-
     // Sets the body's bytes at the start of out, and no others.
     fn write(self, out: &mut [u8])
-        requires { size ≤ length out.old }
+        requires { BODY ≤ length out.old }
         ensures { out.new ≡ over (body self) out.old };
 
-    ghost free: { Free kind };
+    ghost free: { Free KIND };
 
-    ghost least: { 1 ≤ size };
+    ghost least: { 1 ≤ BODY };
 
-    ghost most: { size ≤ 8 };
+    ghost most: { BODY ≤ 8 };
 
-    ghost sized: { (x : Self) → length (body x) ≡ size };
+    ghost sized: { (x : Self) → length (body x) ≡ BODY };
 
     ghost told: { (x y : Self) → body x ≡ body y → x ≡ y };
 }

@@ -9,9 +9,9 @@ impl Framed for u64 {
 
     const BODY: usize = 8;
 
-    ghost kind = { 0x24 };
+    ghost KIND = { 0x24 };
 
-    ghost size = { 8 };
+    ghost BODY = { 8 };
 
     ghost body = { be8 };
 
@@ -24,14 +24,6 @@ impl Framed for u64 {
     ghost sized = { Prim.search rules };
 
     ghost told = { Prim.search rules };
-
-    fn kind_byte() -> u8 {
-        Self::KIND
-    }
-
-    fn body_len() -> usize {
-        Self::BODY
-    }
 
     fn write(self, out: &mut [u8]) {
         out[0..8].copy_from_slice(&self.to_be_bytes());

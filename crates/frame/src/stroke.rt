@@ -19,9 +19,9 @@ impl Framed for Stroke {
 
     const BODY: usize = 3;
 
-    ghost kind = { 0x23 };
+    ghost KIND = { 0x23 };
 
-    ghost size = { 3 };
+    ghost BODY = { 3 };
 
     ghost body = { λ s. s.valve ∷ be2 s.volume };
 
@@ -34,14 +34,6 @@ impl Framed for Stroke {
     ghost sized = { Prim.search rules };
 
     ghost told = { Prim.search rules };
-
-    fn kind_byte() -> u8 {
-        Self::KIND
-    }
-
-    fn body_len() -> usize {
-        Self::BODY
-    }
 
     fn write(self, out: &mut [u8]) {
         let [high, low] = self.volume.to_be_bytes();
