@@ -85,3 +85,6 @@ items_part xs lo hi m e = fun_ext (λ k. let p = slice_get_past xs (lo + k) in g
 pub items_all : {A : Type 0} (xs : List A) → window 0 (length xs) (slice_get xs) ≡ slice_get xs
 unfolding first after
 items_all xs = fun_ext (λ k. let p = slice_get_past xs k in grind (arith, nat_tests))
+
+-- what the calls of a leaf come to
+pub ruleset calls = (touching, shown_at, front_lack, front_rest, back_lack, back_rest, back_is, size_is, numbers_full, items_full, picked, missed, items_part, items_all)

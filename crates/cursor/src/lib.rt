@@ -39,11 +39,6 @@ pub trait Cursor {
     // how a touch changes the tally: a leaf says exactly, an adapter leaves it free
     ghost touch: { ℕ → ℕ → Type 0 } = { Free };
 
-    // after the first nothing only nothing
-    ghost closed: { (c : Self) → Closed (row c) };
-
-    ghost enclosed: { (c : Self) → Closed (home c) };
-
     // The first item.
     fn next(&mut self) -> Option<Self::Item>
         ensures value { result ≡ row self.old 0 }
@@ -69,6 +64,11 @@ pub trait Cursor {
     // The weight, or the largest count if it is larger.
     fn weight(&self) -> u64
         ensures { result ≡ capped weight };
+
+    // After the first nothing only nothing.
+    ghost closed: { (c : Self) → Closed (row c) };
+
+    ghost enclosed: { (c : Self) → Closed (home c) };
 }
 
 // A cursor that is walked from both ends. Its row has at most 2^64 - 1 items: `len` says so.

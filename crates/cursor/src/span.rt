@@ -25,7 +25,7 @@ impl Span {
         ensures value { result ≡ place_at self.old n }
         ensures rest { self.new ≡ cut_front (n + 1) self.old }
     {
-        let left = self.hi.saturating_sub(self.lo);
+        let left = self.len();
         if n < left {
             let place = self.lo + n;
             self.lo = place + 1;
@@ -40,7 +40,7 @@ impl Span {
         ensures value { lack result ≡ n - (self.old.hi - self.old.lo) }
         ensures rest { self.new ≡ cut_front n self.old }
     {
-        let left = self.hi.saturating_sub(self.lo);
+        let left = self.len();
         self.lo += n.min(left);
         short_by(n.saturating_sub(left))
     }
@@ -51,10 +51,11 @@ impl Span {
         ensures bound { self.old.hi < 2 ^ 64 }
         ensures rest { self.new ≡ cut_back (n + 1) self.old }
     {
-        let left = self.hi.saturating_sub(self.lo);
+        let left = self.len();
         if n < left {
-            self.hi -= n + 1;
-            Some(self.hi)
+            let place = self.hi - (n + 1);
+            self.hi = place;
+            Some(place)
         } else {
             self.hi -= left;
             None
@@ -66,7 +67,7 @@ impl Span {
         ensures bound { self.old.hi < 2 ^ 64 }
         ensures rest { self.new ≡ cut_back n self.old }
     {
-        let left = self.hi.saturating_sub(self.lo);
+        let left = self.len();
         self.hi -= n.min(left);
         short_by(n.saturating_sub(left))
     }

@@ -4,14 +4,14 @@ ghost use Rattle.std.specs.Prelude.{◌<◌};
 
 pub mod making;
 
-#[derive(Clone, Copy, Debug)]
+#[derive(Clone, Copy, Debug, PartialEq, Eq)]
 pub struct Stride {
     steps: u64,
     ghost some: { 0 < steps },
 }
 
-// Why a stride is not made.
+// Why a stride is not made, by the number of the refusal.
 #[derive(Clone, Copy, Debug, PartialEq, Eq)]
 pub enum StrideFault {
-    Zero,
+    Zero = 1,
 }

@@ -25,6 +25,7 @@ impl CountLeaf {
     }
 }
 
+#[tactic(auto, using(crate::proofs::Spans::calls), unfolding(crate::specs::Rows::numbers))]
 impl Cursor for CountLeaf {
     type Item = u64;
 
@@ -65,6 +66,7 @@ impl Cursor for CountLeaf {
     }
 }
 
+#[tactic(auto, using(crate::proofs::Spans::calls), unfolding(crate::specs::Rows::numbers))]
 impl TwoEnded for CountLeaf {
     fn len(&self) -> u64 {
         self.bounds.len()

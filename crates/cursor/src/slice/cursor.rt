@@ -11,6 +11,7 @@ use crate::shortfall::Shortfall;
 use crate::span::{Span, touched};
 use crate::{Cursor, Homing, TwoEnded};
 
+#[tactic(auto, using(crate::proofs::Spans::calls))]
 impl<'a, T: Copy> SliceLeaf<'a, T> {
     // The whole slice.
     pub fn new(items: &'a [T]) -> Self
@@ -18,16 +19,7 @@ impl<'a, T: Copy> SliceLeaf<'a, T> {
         ensures home { slice_home result ≡ slice_get items.now }
         ensures tally { result.tally ≡ 0 }
     {
-        let bounds = Span {
-            lo: 0,
-            hi: items.len() as u64,
-        };
-        SliceLeaf {
-            items,
-            bounds,
-            home: bounds,
-            tally: 0,
-        }
+        Self::part(items, 0, items.len() as u64)
     }
 
     // Its items at the places from lo up to hi - 1, as far as it has them.
@@ -49,6 +41,7 @@ impl<'a, T: Copy> SliceLeaf<'a, T> {
     }
 }
 
+#[tactic(auto, using(crate::proofs::Spans::calls))]
 impl<'a, T: Copy> Cursor for SliceLeaf<'a, T> {
     type Item = T;
 
@@ -72,10 +65,8 @@ impl<'a, T: Copy> Cursor for SliceLeaf<'a, T> {
 
     fn nth(&mut self, n: u64) -> Option<T> {
         self.tally = touched(self.tally);
-        match self.bounds.nth(n) {
-            Some(place) => Some(self.items[place as usize]),
-            None => None,
-        }
+        let place = self.bounds.nth(n)?;
+        Some(self.items[place as usize])
     }
 
     fn advance(&mut self, n: u64) -> Result<(), Shortfall> {
@@ -92,6 +83,7 @@ impl<'a, T: Copy> Cursor for SliceLeaf<'a, T> {
     }
 }
 
+#[tactic(auto, using(crate::proofs::Spans::calls))]
 impl<'a, T: Copy> TwoEnded for SliceLeaf<'a, T> {
     fn len(&self) -> u64 {
         self.bounds.len()
@@ -103,10 +95,8 @@ impl<'a, T: Copy> TwoEnded for SliceLeaf<'a, T> {
 
     fn nth_back(&mut self, n: u64) -> Option<T> {
         self.tally = touched(self.tally);
-        match self.bounds.nth_back(n) {
-            Some(place) => Some(self.items[place as usize]),
-            None => None,
-        }
+        let place = self.bounds.nth_back(n)?;
+        Some(self.items[place as usize])
     }
 
     fn advance_back(&mut self, n: u64) -> Result<(), Shortfall> {

@@ -3,6 +3,7 @@ ghost use Rattle.std.specs.Prelude.{◌≡◌};
 ghost use Rattle.cursor.specs.NonZero.{stride_of, one_stride, stride_number};
 
 use crate::stride::{Stride, StrideFault};
+use refusal::Refusal;
 
 impl Stride {
     // A stride of so many steps; 0 is refused.
@@ -17,6 +18,7 @@ impl Stride {
     }
 
     // The stride that leaves no item out.
+    #[tactic(auto, using(crate::proofs::NonZero::same_stride))]
     pub fn one() -> Stride
         ensures { result ≡ one_stride }
     {
@@ -30,13 +32,10 @@ impl Stride {
     }
 }
 
-impl StrideFault {
-    // The number of the refusal.
-    pub fn number(self) -> u8
-        ensures { result ≡ stride_number self }
-    {
-        match self {
-            StrideFault::Zero => 1,
-        }
+impl Refusal for StrideFault {
+    ghost number = { stride_number };
+
+    fn number(self) -> u8 {
+        self as u8
     }
 }
