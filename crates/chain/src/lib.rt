@@ -3,7 +3,7 @@
 // The cut at 2^64 - 1 items is made once: `left` counts the items that are still to be shown, so what was cut off does not
 // come back when others have been taken. A back call leaves what it takes behind the last item that is shown.
 
-#![tactic(auto)]
+#![tactic(auto, using(crate::proofs::Chains::chains, cursor::proofs::Costs::costs, cursor::proofs::Laws::places, cursor::proofs::Laws::cuts))]
 
 ghost use Rattle.std.specs.Prelude.{◌≡◌, ◌+◌, ◌-◌, ◌^◌};
 ghost use Rattle.cursor.specs.Rows.{first, join};

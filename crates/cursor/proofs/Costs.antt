@@ -20,3 +20,6 @@ module _ {A B : Type 0} {touch : ℕ → ℕ → Type 0} {w t t' : ℕ} {h h' : 
   twice u =
       let a = s.more in let b = s.few in let c = u.more in let d = u.few in
       record { more = omega arith; few = omega arith; touched = tt; kept = ap f (u.kept ∙ s.kept) }
+
+-- what calls below cost
+pub ruleset costs = (unspent, passed, widely, twice)

@@ -81,11 +81,11 @@ pub size_length : {A : Type 0} (l : ℕ) (r : Row A) → Length r l → l < 2 ^ 
 unfolding size
 size_length l r h f = let t = taken_length l r (2 ^ 64 - 1) h in omega arith
 
-pub size_after : {A : Type 0} (m l : ℕ) (r : Row A) → Length r l → l < 2 ^ 64 → size (after m r) ≡ l - m
-size_after m l r h f = size_length (l - m) (after m r) (length_after m l (l - m) r h refl) (omega arith)
+pub size_after : {A : Type 0} (m : ℕ) (r : Row A) → Length r (size r) → size (after m r) ≡ size r - m
+size_after m r h = let f = size_fits r in size_length (size r - m) (after m r) (length_after m (size r) (size r - m) r h refl) (omega arith)
 
-pub size_first : {A : Type 0} (m l : ℕ) (r : Row A) → Length r l → l < 2 ^ 64 → size (first m r) ≡ min m l
-size_first m l r h f = size_length (min m l) (first m r) (length_first m l (min m l) r h refl) (omega arith)
+pub size_first : {A : Type 0} (m : ℕ) (r : Row A) → Length r (size r) → size (first m r) ≡ min m (size r)
+size_first m r h = let f = size_fits r in size_length (min m (size r)) (first m r) (length_first m (size r) (min m (size r)) r h refl) (omega arith)
 
 -- how many items of a cut row there are
 pub taken_first : {A : Type 0} (n : ℕ) (r : Row A) (m : ℕ) → taken (first n r) m ≡ taken r (min n m)
@@ -155,6 +155,9 @@ length_short r c h = record {
 
 pub length_is : {A : Type 0} (l m : ℕ) (r : Row A) → Length r l → m ≡ l → Length r m
 length_is l m r h e = subst (Length r) (sym e) h
+
+pub length_closed : {A : Type 0} (l : ℕ) (r : Row A) → Length r l → Closed r
+length_closed l r h = record { shut = λ k e. ⊎_elim (λ b. let i = h.inside k b in absurd (let z : ◌≡◌ {A = ℕ} 0 1 = cc in omega arith)) (λ b. h.outside (k + 1) (omega arith)) (cases_lt k l) }
 
 -- items at single places; cuts of cuts; lengths of what a cut leaves
 pub ruleset places = (first_in, first_out, at_after, back_in, back_out)

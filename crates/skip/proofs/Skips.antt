@@ -71,26 +71,26 @@ module _ {A : Type 0} (r : Row A) (c : Closed r) (n m b a : ℕ) (eb : b ≡ min
       (x - taken r' x ≡ m - taken (after n r) m) × (after (n - a) r'' ≡ after m (after n r))
   skip_twice f x r' r'' ex e h i = (ap (λ y. x - taken y x) e ∙ full_value f h x ex, full_rest f h x ex r' r'' e i)
 
--- the back, over a row of l items
-module _ {A : Type 0} (n l : ℕ) (r : Row A) (h : Length r l) (f : l < 2 ^ 64) where
-  pub skip_len : (m : ℕ) → m ≡ l - n → (m ≡ size (after n r)) × Length (after n r) m
-  skip_len m e = let s = size_after n l r h f in (omega arith, length_after n l m r h e)
-
-  pub skip_item : (m : ℕ) (o : Option A) → m < l - n → o ≡ back r m → o ≡ back (after n r) m
+-- the back
+module _ {A : Type 0} (n : ℕ) (r : Row A) (h : Length r (size r)) where
+  pub skip_item : (m : ℕ) (o : Option A) → m < size r - n → o ≡ back r m → o ≡ back (after n r) m
   unfolding after back_at
   skip_item m o b i =
-      let s = size_after n l r h f in let t = size_length l r h f in
-      let e : n + ((l - n) - (m + 1)) ≡ l - (m + 1) = omega arith in grind (arith, nat_tests)
+      let s = size_after n r h in
+      let e : n + ((size r - n) - (m + 1)) ≡ size r - (m + 1) = omega arith in grind (arith, nat_tests)
 
-  pub skip_gone : (m : ℕ) → l - n ≤ m → None ≡ back (after n r) m
-  skip_gone m b = let s = size_after n l r h f in sym (back_out (after n r) m (omega arith))
+  pub skip_gone : (m : ℕ) → size r - n ≤ m → None ≡ back (after n r) m
+  skip_gone m b = let s = size_after n r h in sym (back_out (after n r) m (omega arith))
 
-  pub skip_left : (x m : ℕ) (r' : Row A) → r' ≡ first (size r - x) r → x ≡ min (l - n) m → after n r' ≡ first (size (after n r) - m) (after n r)
+  pub skip_left : (x m : ℕ) (r' : Row A) → r' ≡ first (size r - x) r → x ≡ min (size r - n) m → after n r' ≡ first (size (after n r) - m) (after n r)
   unfolding after first
   skip_left x m r' e i =
-      let s = size_after n l r h f in let t = size_length l r h f in
+      let s = size_after n r h in
       ap (after n) e ∙ fun_ext (λ k. grind (arith, nat_tests, h.outside (n + k)))
 
-  pub skip_still : l ≤ n → (m : ℕ) → after n r ≡ first (size (after n r) - m) (after n r)
+  pub skip_still : size r ≤ n → (m : ℕ) → after n r ≡ first (size (after n r) - m) (after n r)
   unfolding after first
   skip_still b m = fun_ext (λ k. grind (arith, nat_tests, h.outside (n + k)))
+
+-- what the calls from the back come to
+pub ruleset skips = (size_after, skip_item, skip_gone, skip_left, skip_still)

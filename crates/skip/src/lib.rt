@@ -1,6 +1,6 @@
 // Skip: the cursor below it without its first n items. Carried over from core::iter's skip.rs.
 
-#![tactic(auto)]
+#![tactic(auto, using(crate::proofs::Skips::skips, cursor::proofs::Costs::costs, cursor::proofs::Laws::places, cursor::proofs::Laws::cuts))]
 
 ghost use Rattle.std.specs.Prelude.{◌≡◌, ◌*◌};
 ghost use Rattle.cursor.specs.Rows.{after};

@@ -8,34 +8,31 @@ use Rattle.cursor.specs.Closing.{closed_on, taken_le}
 use Rattle.cursor.proofs.Laws.{back_out, first_first, length_first, taken_first, taken_short, size_length, size_first, size_none}
 
 -- the front: k of the m places asked for are within the n, and a of those have an item
-pub take_advanced : {A : Type 0} (n m k a : ℕ) (r r' : Row A) → Closed r → k ≡ min n m → a ≡ taken r k → r' ≡ after k r →
-    (taken (first n r) m ≡ a) × (first (n - a) r' ≡ after m (first n r))
+pub take_ahead : {A : Type 0} (n n' m k : ℕ) (r r' : Row A) → Closed r → k ≡ min n m → n' ≡ n - taken r k → r' ≡ after k r → first n' r' ≡ after m (first n r)
 unfolding first after
-take_advanced n m k a r r' c ek ea er = (
-  taken_first n r m ∙ (ap (taken r) (sym ek) ∙ sym ea),
-  ap (first (n - a)) er ∙ fun_ext (λ i. ⊎_elim
-      (λ b. let z = taken_short r c k b in let x = closed_on r c k i z in let y = closed_on r c k ((m - k) + i) z in grind (arith, nat_tests))
-      (λ b. let l = taken_le r k in grind (arith, nat_tests))
-      (cases_lt (taken r k) k)),
-)
+take_ahead n n' m k r r' c ek ea er =
+    ap (first n') er ∙ fun_ext (λ i. ⊎_elim
+    (λ b. let z = taken_short r c k b in let x = closed_on r c k i z in let y = closed_on r c k ((m - k) + i) z in grind (arith, nat_tests))
+    (λ b. let l = taken_le r k in grind (arith, nat_tests))
+    (cases_lt (taken r k) k))
 
--- the back, over a row of l items
-module _ {A : Type 0} (n l : ℕ) (r : Row A) (h : Length r l) (f : l < 2 ^ 64) where
-  pub take_len : (m : ℕ) → m ≡ min l n → (m ≡ size (first n r)) × Length (first n r) m
-  take_len m e = let s = size_first n l r h f in (omega arith, length_first n l m r h (omega arith))
-
-  pub take_item : (m k : ℕ) (o : Option A) → m < n → k ≡ l - n + m → o ≡ back r k → o ≡ back (first n r) m
+-- the back
+module _ {A : Type 0} (n : ℕ) (r : Row A) (h : Length r (size r)) where
+  pub take_item : (m k : ℕ) (o : Option A) → m < n → k ≡ size r - n + m → o ≡ back r k → o ≡ back (first n r) m
   unfolding first back_at
-  take_item m k o b e i = let s = size_first n l r h f in let t = size_length l r h f in grind (arith, nat_tests)
+  take_item m k o b e i = let s = size_first n r h in grind (arith, nat_tests)
+
+  pub take_last : (k : ℕ) (o : Option A) → 0 < n → k ≡ size r - n → o ≡ back r k → o ≡ back (first n r) 0
+  take_last k o b e i = take_item 0 k o b (omega arith) i
 
   pub take_gone : (m : ℕ) → n ≤ m → None ≡ back (first n r) m
-  take_gone m b = let s = size_first n l r h f in sym (back_out (first n r) m (omega arith))
+  take_gone m b = let s = size_first n r h in sym (back_out (first n r) m (omega arith))
 
-  pub take_left : (n' x m : ℕ) (r' : Row A) → r' ≡ first (size r - x) r → min n' (l - x) ≡ min n l - m → first n' r' ≡ first (size (first n r) - m) (first n r)
+  pub take_left : (n' x m : ℕ) (r' : Row A) → r' ≡ first (size r - x) r → min n' (size r - x) ≡ min n (size r) - m → first n' r' ≡ first (size (first n r) - m) (first n r)
   unfolding first
-  take_left n' x m r' e i = let s = size_first n l r h f in let t = size_length l r h f in ap (first n') e ∙ fun_ext (λ k. grind (arith, nat_tests))
+  take_left n' x m r' e i = let s = size_first n r h in ap (first n') e ∙ fun_ext (λ k. grind (arith, nat_tests))
 
-  pub take_still : l ≡ 0 → (m : ℕ) → first n r ≡ first (size (first n r) - m) (first n r)
+  pub take_still : size r ≡ 0 → (m : ℕ) → first n r ≡ first (size (first n r) - m) (first n r)
   unfolding first
   take_still e m = fun_ext (λ k. grind (arith, nat_tests, h.outside))
 
@@ -53,3 +50,6 @@ pub take_none : {A : Type 0} (n : ℕ) (r : Row A) (m k : ℕ) → n ≡ 0 → (
 take_none n r m k e =
     let z = size_none n r e in
     (sym (back_out (first n r) m (omega arith)), sym (first_first (size (first n r) - k) n n r (omega arith)))
+
+-- what the calls come to
+pub ruleset takes = (taken_le, taken_first, take_ahead, size_first, take_item, take_last, take_gone, take_left, take_still, take_trim, take_none)

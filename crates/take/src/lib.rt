@@ -1,6 +1,6 @@
 // Take: the first n items of the cursor below it. Carried over from core::iter's take.rs.
 
-#![tactic(auto)]
+#![tactic(auto, using(crate::proofs::Takes::takes, cursor::proofs::Costs::costs, cursor::proofs::Laws::places, cursor::proofs::Laws::cuts))]
 
 ghost use Rattle.std.specs.Prelude.{◌≡◌};
 ghost use Rattle.cursor.specs.Rows.{first};
