@@ -22,6 +22,10 @@ pub record Spent {A : Type 0} (w : ℕ) (touch : ℕ → ℕ → Type 0) (t t' :
   pub touched : touch t t'
   pub kept : h' ≡ h
 
+-- the same of a cursor before and after a call that keeps the home
+abbrev pub Spends : {C A : Type 0} → ℕ → (ℕ → ℕ → Type 0) → (C → ℕ) → (C → Row A) → C → C → Type 0
+Spends w touch tally home c d = Spent w touch (tally c) (tally d) (home c) (home d)
+
 -- by how many places an advance fell short; 0 if it is done
 abbrev pub lack : Result (Unit {0}) Shortfall → ℕ
 lack (Ok _) = 0

@@ -9,7 +9,7 @@
 
 ghost use Rattle.std.specs.Prelude.{◌≡◌, ℕ, ◌+◌, ◌-◌};
 ghost use Rattle.cursor.specs.Rows.{Row, Closed, Length, bare, after, first, taken, size, back};
-ghost use Rattle.cursor.specs.Calls.{Free, Spent, capped, lack};
+ghost use Rattle.cursor.specs.Calls.{Free, Spent, Spends, capped, lack};
 
 pub mod count;
 pub mod shortfall;
@@ -43,19 +43,19 @@ pub trait Cursor {
     fn next(&mut self) -> Option<Self::Item>
         ensures value { result ≡ row self.old 0 }
         ensures rest { row self.new ≡ after 1 (row self.old) }
-        ensures spent { Spent weight touch (tally self.old) (tally self.new) (home self.old) (home self.new) };
+        ensures spent { Spends weight touch tally home self.old self.new };
 
     // The item at place n; it and all before it are taken.
     fn nth(&mut self, n: u64) -> Option<Self::Item>
         ensures value { result ≡ row self.old n }
         ensures rest { row self.new ≡ after (n + 1) (row self.old) }
-        ensures spent { Spent weight touch (tally self.old) (tally self.new) (home self.old) (home self.new) };
+        ensures spent { Spends weight touch tally home self.old self.new };
 
     // Takes the first n items, or all; answers how many there were too few.
     fn advance(&mut self, n: u64) -> Result<(), Shortfall>
         ensures value { lack result ≡ n - taken (row self.old) n }
         ensures rest { row self.new ≡ after n (row self.old) }
-        ensures spent { Spent weight touch (tally self.old) (tally self.new) (home self.old) (home self.new) };
+        ensures spent { Spends weight touch tally home self.old self.new };
 
     // The tally, or the largest count if it is larger.
     fn tally(&self) -> u64
@@ -82,19 +82,19 @@ pub trait TwoEnded: Cursor {
     fn next_back(&mut self) -> Option<Self::Item>
         ensures value { result ≡ back (Self.Cursor.row self.old) 0 }
         ensures rest { Self.Cursor.row self.new ≡ first (size (Self.Cursor.row self.old) - 1) (Self.Cursor.row self.old) }
-        ensures spent { Spent Self.weight Self.touch (Self.tally self.old) (Self.tally self.new) (Self.home self.old) (Self.home self.new) };
+        ensures spent { Spends Self.weight Self.touch Self.tally Self.home self.old self.new };
 
     // The item at place n from the back; it and all behind it are taken.
     fn nth_back(&mut self, n: u64) -> Option<Self::Item>
         ensures value { result ≡ back (Self.Cursor.row self.old) n }
         ensures rest { Self.Cursor.row self.new ≡ first (size (Self.Cursor.row self.old) - (n + 1)) (Self.Cursor.row self.old) }
-        ensures spent { Spent Self.weight Self.touch (Self.tally self.old) (Self.tally self.new) (Self.home self.old) (Self.home self.new) };
+        ensures spent { Spends Self.weight Self.touch Self.tally Self.home self.old self.new };
 
     // Takes the last n items, or all; answers how many there were too few.
     fn advance_back(&mut self, n: u64) -> Result<(), Shortfall>
         ensures value { lack result ≡ n - size (Self.Cursor.row self.old) }
         ensures rest { Self.Cursor.row self.new ≡ first (size (Self.Cursor.row self.old) - n) (Self.Cursor.row self.old) }
-        ensures spent { Spent Self.weight Self.touch (Self.tally self.old) (Self.tally self.new) (Self.home self.old) (Self.home self.new) };
+        ensures spent { Spends Self.weight Self.touch Self.tally Self.home self.old self.new };
 }
 
 // A cursor that can be sent back to a row that it was marked at.
@@ -107,5 +107,5 @@ pub trait Homing: TwoEnded {
     // The home becomes the present row.
     fn restart(&mut self)
         ensures rest { Self.Cursor.row self.new ≡ Self.home self.old }
-        ensures spent { Spent Self.weight Self.touch (Self.tally self.old) (Self.tally self.new) (Self.home self.old) (Self.home self.new) };
+        ensures spent { Spends Self.weight Self.touch Self.tally Self.home self.old self.new };
 }

@@ -3,22 +3,16 @@ use cursor::shortfall::Shortfall;
 use cursor::shortfall::making::lacking;
 use cursor::stride::{Stride, StrideFault};
 use cursor::{Cursor, Homing, TwoEnded};
+use refusal::Refusal;
 use std::test::Fail;
 
 #[test]
 fn never_zero(rt: HostRuntime) -> Result<(), Fail> {
-    assert!(rt; Shortfall::new(0).is_none());
-    match Stride::new(0) {
-        Ok(_) => return Err(Fail::new("a stride of 0 was made")),
-        Err(fault) => assert_eq!(rt; fault.number(), 1),
-    }
-    match Stride::new(u64::MAX) {
-        Ok(stride) => {
-            assert_eq!(rt; stride.get(), u64::MAX);
-            Ok(())
-        },
-        Err(StrideFault::Zero) => Err(Fail::new("a stride of ones was refused")),
-    }
+    assert_eq!(rt; Shortfall::new(0), None);
+    assert_eq!(rt; Stride::new(0), Err(StrideFault::Zero));
+    assert_eq!(rt; StrideFault::Zero.number(), 1);
+    assert_eq!(rt; Stride::new(u64::MAX)?.get(), u64::MAX);
+    Ok(())
 }
 
 // Nothing unless hi is above lo; a call that finds nothing is a touch too.

@@ -16,27 +16,23 @@ fn loaded_tints(rt: HostRuntime) -> Result<(), Fail> {
     };
     let mut purges = [none; 4];
     let mut tints = [none; 4];
-    match load(SAMPLE, &mut purges, &mut tints) {
-        Ok(loaded) => {
-            let mut leaf = SliceLeaf::part(&tints, 0, loaded.tints as u64);
-            assert_eq!(rt; leaf.len(), 2);
-            assert_eq!(rt;
-                leaf.next_back(),
-                Some(Stroke {
-                    valve: 2,
-                    volume: 200,
-                })
-            );
-            assert_eq!(rt;
-                leaf.next(),
-                Some(Stroke {
-                    valve: 1,
-                    volume: 100,
-                })
-            );
-            assert_eq!(rt; (leaf.next(), leaf.tally()), (None, 3));
-            Ok(())
-        }
-        Err(_) => Err(Fail::new("the sample is refused")),
-    }
+    let loaded = load(SAMPLE, &mut purges, &mut tints)?;
+    let mut leaf = SliceLeaf::part(&tints, 0, loaded.tints as u64);
+    assert_eq!(rt; leaf.len(), 2);
+    assert_eq!(rt;
+        leaf.next_back(),
+        Some(Stroke {
+            valve: 2,
+            volume: 200,
+        })
+    );
+    assert_eq!(rt;
+        leaf.next(),
+        Some(Stroke {
+            valve: 1,
+            volume: 100,
+        })
+    );
+    assert_eq!(rt; (leaf.next(), leaf.tally()), (None, 3));
+    Ok(())
 }

@@ -26,6 +26,6 @@ impl Framed for u64 {
     ghost told = { Prim.search rules };
 
     fn write(self, out: &mut [u8]) {
-        out[0..8].copy_from_slice(&self.to_be_bytes());
+        out[..8].copy_from_slice(&self.to_be_bytes());
     }
 }

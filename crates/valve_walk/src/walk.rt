@@ -17,25 +17,32 @@ pub(crate) fn show_valve_row(
 ) -> io::Result<()> {
     let strokes = Chain::new(SliceLeaf::new(purges), SliceLeaf::new(tints));
     let mut pile = Take::new(Skip::new(strokes, resume), limit);
-    let count = pile.len();
-    println!(rt; "Valve row, from the front: {count}.")?;
-    for _ in 0..count {
-        if let Some(stroke) = pile.next() {
-            show_stroke(rt, stroke)?;
-        }
-    }
+    show_from_front(rt, &mut pile)?;
     pile.restart();
-    println!(rt; "Valve row, from the back: {count}.")?;
-    for _ in 0..count {
-        if let Some(stroke) = pile.next_back() {
-            show_stroke(rt, stroke)?;
-        }
+    show_from_back(rt, &mut pile)
+}
+
+#[tactic(auto, using(cursor::proofs::Laws::sizes, cursor::proofs::Laws::places))]
+fn show_from_front<C: TwoEnded<Item = Stroke>>(rt: &HostRuntime, pile: &mut C) -> io::Result<()> {
+    println!(rt; "Valve row, from the front: {}.", pile.len())?;
+    while let Some(stroke) = pile.next() {
+        show_stroke(rt, stroke)?;
+    }
+    Ok(())
+}
+
+#[tactic(auto, using(cursor::proofs::Laws::sizes, cursor::proofs::Laws::places))]
+fn show_from_back<C: TwoEnded<Item = Stroke>>(rt: &HostRuntime, pile: &mut C) -> io::Result<()> {
+    println!(rt; "Valve row, from the back: {}.", pile.len())?;
+    while let Some(stroke) = pile.next_back() {
+        show_stroke(rt, stroke)?;
     }
     Ok(())
 }
 
 fn show_stroke(rt: &HostRuntime, stroke: Stroke) -> io::Result<()> {
-    let canister = stroke.valve;
-    let volume = stroke.volume;
-    println!(rt; "  canister {canister}, {volume} hundredths of a ml")
+    println!(rt;
+        "  canister {}, {} hundredths of a ml",
+        stroke.valve, stroke.volume
+    )
 }

@@ -24,7 +24,8 @@ impl Shortfall {
     }
 }
 
-// What an advance answers that lacks so many places: done, if it lacks none.
+// What an advance answers that lacks so many places: done, if it lacks none. This and its reverse are functions: neither of
+// the two types is this crate's, so it can give them no `From`.
 pub fn short_by(places: u64) -> Result<(), Shortfall>
     ensures { lack result ≡ places }
 {
