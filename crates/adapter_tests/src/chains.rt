@@ -6,7 +6,7 @@ use cursor::{Cursor, Homing, TwoEnded};
 
 const MAX: u64 = u64::MAX;
 
-// 1, 2 and 3
+/// 1, 2 and 3
 fn three() -> Chain<CountLeaf, CountLeaf> {
     Chain::new(CountLeaf::new(1, 3), CountLeaf::new(3, 4))
 }
@@ -35,7 +35,7 @@ fn from_the_back(rt: HostRuntime) {
     assert_eq!(rt; (chain.weight(), chain.len()), (2, 0));
 }
 
-// At most 2^64 - 1 items, and what was cut off does not come back.
+/// At most 2^64 - 1 items, and what was cut off does not come back.
 #[test]
 fn cut(rt: HostRuntime) {
     let seven = [7u64];
@@ -52,7 +52,7 @@ fn cut(rt: HostRuntime) {
     );
 }
 
-// A mark in the middle of the first part, and back to it from the second.
+/// A mark in the middle of the first part, and back to it from the second.
 #[test]
 fn home(rt: HostRuntime) {
     let mut chain = three();

@@ -6,7 +6,7 @@ use take::Take;
 
 const MAX: u64 = u64::MAX;
 
-// 1, 2, 3, 4, 5
+/// 1, 2, 3, 4, 5
 fn five() -> CountLeaf {
     CountLeaf::new(1, 6)
 }
@@ -20,7 +20,7 @@ fn take_three(rt: HostRuntime) {
     assert_eq!(rt; (take.nth_back(3), take.len()), (None, 0));
 }
 
-// More than there is, and nothing at all.
+/// More than there is, and nothing at all.
 #[test]
 fn take_edges(rt: HostRuntime) {
     let mut all = Take::new(five(), MAX);
@@ -62,7 +62,7 @@ fn skip_two(rt: HostRuntime) {
     );
 }
 
-// The sum of what is skipped and n passes the largest count.
+/// The sum of what is skipped and n passes the largest count.
 #[test]
 fn skip_edges(rt: HostRuntime) {
     assert_eq!(rt; Skip::new(five(), MAX).nth(MAX), None);

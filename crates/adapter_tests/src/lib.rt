@@ -1,4 +1,4 @@
-// Take, Skip and Chain, as a newcomer would try them.
+//! Take, Skip and Chain, as a newcomer would try them.
 
 #![tactic(auto)]
 

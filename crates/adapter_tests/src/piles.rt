@@ -5,7 +5,7 @@ use cursor::{Cursor, Homing, TwoEnded};
 use skip::Skip;
 use take::Take;
 
-// Three deep, as a valve pile, over items that are no numbers: b, c, d of a, b and c, d, e.
+/// Three deep, as a valve pile, over items that are no numbers: b, c, d of a, b and c, d, e.
 #[test]
 fn three_deep(rt: HostRuntime) {
     let ab = ['a', 'b'];
@@ -24,7 +24,7 @@ fn three_deep(rt: HostRuntime) {
     assert!(rt; pile.tally() <= 5 * pile.weight());
 }
 
-// A part of a part, and a chain of chains.
+/// A part of a part, and a chain of chains.
 #[test]
 fn alike(rt: HostRuntime) {
     let items = [1u8, 2, 3, 4, 5, 6];

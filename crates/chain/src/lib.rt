@@ -1,7 +1,7 @@
-// Chain: one cursor's items, then another's, the first 2^64 - 1 in all. Carried over from core::iter's chain.rs.
-//
-// The cut at 2^64 - 1 items is made once: `left` counts the items that are still to be shown, so what was cut off does not
-// come back when others have been taken. A back call leaves what it takes behind the last item that is shown.
+//! Chain: one cursor's items, then another's, the first 2^64 - 1 in all. Carried over from core::iter's chain.rs.
+//!
+//! The cut at 2^64 - 1 items is made once: `left` counts the items that are still to be shown, so what was cut off does not
+//! come back when others have been taken. A back call leaves what it takes behind the last item that is shown.
 
 #![tactic(auto, using(crate::proofs::Chains::chains, cursor::proofs::Costs::costs, cursor::proofs::Laws::places, cursor::proofs::Laws::cuts))]
 
@@ -18,9 +18,9 @@ use cursor::{Cursor, Homing, TwoEnded};
 pub struct Chain<L, R> {
     a: L,
     b: R,
-    // how many items are still to be shown, as far as there are so many
+    /// how many items are still to be shown, as far as there are so many
     left: u64,
-    // the same for the home
+    /// the same for the home
     home: u64,
 }
 

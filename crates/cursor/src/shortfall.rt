@@ -1,4 +1,4 @@
-// By how many places an advance fell short of what was asked: never 0, as NonZero.
+//! By how many places an advance fell short of what was asked: never 0, as NonZero.
 ghost use Rattle.std.specs.Prelude.{◌<◌};
 
 pub mod making;

@@ -1,4 +1,4 @@
-// What both leaves are made of: their bounds, and the count of their touches.
+//! What both leaves are made of: their bounds, and the count of their touches.
 ghost use Rattle.std.specs.Prelude.{◌≡◌, ◌+◌, ◌-◌, ◌^◌, ◌<◌};
 ghost use Rattle.cursor.specs.Calls.{capped, lack};
 ghost use Rattle.cursor.specs.Spans.{place_at, place_back, cut_front, cut_back};
@@ -6,7 +6,7 @@ ghost use Rattle.cursor.specs.Spans.{place_at, place_back, cut_front, cut_back};
 use crate::shortfall::Shortfall;
 use crate::shortfall::making::short_by;
 
-// The bounds of a leaf: the places from lo up to hi - 1 are still to come, none unless hi is above lo.
+/// The bounds of a leaf: the places from lo up to hi - 1 are still to come, none unless hi is above lo.
 #[derive(Clone, Copy)]
 pub(crate) struct Span {
     pub(crate) lo: u64,
@@ -20,7 +20,7 @@ impl Span {
         self.hi.saturating_sub(self.lo)
     }
 
-    // The place n of it; that and all before it are cut off.
+    /// The place n of it; that and all before it are cut off.
     pub(crate) fn nth(&mut self, n: u64) -> Option<u64>
         ensures value { result ≡ place_at self.old n }
         ensures rest { self.new ≡ cut_front (n + 1) self.old }
@@ -45,7 +45,7 @@ impl Span {
         short_by(n.saturating_sub(left))
     }
 
-    // The place n from the back; that and all behind it are cut off.
+    /// The place n from the back; that and all behind it are cut off.
     pub(crate) fn nth_back(&mut self, n: u64) -> Option<u64>
         ensures value { result ≡ place_back self.old n }
         ensures bound { self.old.hi < 2 ^ 64 }
@@ -73,7 +73,7 @@ impl Span {
     }
 }
 
-// A leaf's tally after one touch more; it stops at the largest count.
+/// A leaf's tally after one touch more; it stops at the largest count.
 pub(crate) fn touched(tally: u64) -> u64
     ensures { result ≡ capped (tally + 1) }
 {

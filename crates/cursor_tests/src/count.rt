@@ -15,7 +15,7 @@ fn never_zero(rt: HostRuntime) -> Result<(), Fail> {
     Ok(())
 }
 
-// Nothing unless hi is above lo; a call that finds nothing is a touch too.
+/// Nothing unless hi is above lo; a call that finds nothing is a touch too.
 #[test]
 fn empty(rt: HostRuntime) {
     let mut leaf = CountLeaf::new(5, 3);
@@ -38,7 +38,7 @@ fn one_item(rt: HostRuntime) {
     assert_eq!(rt; leaf.next_back(), None);
 }
 
-// Places 0, len - 1 and len from either end.
+/// Places 0, len - 1 and len from either end.
 #[test]
 fn edges(rt: HostRuntime) {
     assert_eq!(rt; CountLeaf::new(1, 6).nth(0), Some(1));
@@ -52,7 +52,7 @@ fn edges(rt: HostRuntime) {
     assert_eq!(rt; lacking(CountLeaf::new(1, 6).advance_back(6)), 1);
 }
 
-// 0 to 2^64 - 1, from both ends.
+/// 0 to 2^64 - 1, from both ends.
 #[test]
 fn longest(rt: HostRuntime) {
     let mut leaf = CountLeaf::new(0, u64::MAX);
@@ -67,7 +67,7 @@ fn longest(rt: HostRuntime) {
     assert_eq!(rt; leaf.len(), 0);
 }
 
-// A mark in the middle, and back to it.
+/// A mark in the middle, and back to it.
 #[test]
 fn home(rt: HostRuntime) {
     let mut leaf = CountLeaf::new(0, 5);

@@ -1,4 +1,4 @@
-// The two leaves, the stride and the shortfall, as a newcomer would try them.
+//! The two leaves, the stride and the shortfall, as a newcomer would try them.
 
 #![tactic(auto)]
 

@@ -24,7 +24,7 @@ fn edges(rt: HostRuntime) {
     assert_eq!(rt; SliceLeaf::new(&five).nth_back(u64::MAX), None);
 }
 
-// A part of a slice, also one that goes past its end; items that are no numbers.
+/// A part of a slice, also one that goes past its end; items that are no numbers.
 #[test]
 fn parts(rt: HostRuntime) {
     let pairs = [('a', true), ('b', false), ('c', true)];

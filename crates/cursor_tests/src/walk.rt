@@ -7,7 +7,7 @@ use ticket::loading::load;
 const SAMPLE: &[u8] =
     b"\x01\x00\x00\x00\x07\x03\xE8\x03\x05\x00\x0A\x02\x01\x00\x64\x02\x02\x00\xC8\x06\x00\x00\x00\x00\x00\x00\x00\x02\x0F\x00\x03";
 
-// The tints of a loaded ticket, from both ends.
+/// The tints of a loaded ticket, from both ends.
 #[test]
 fn loaded_tints(rt: HostRuntime) -> Result<(), Fail> {
     let none = Stroke {

@@ -1,4 +1,4 @@
-// What goes over the bus: strokes and numbers, and how an item of each kind stands in a frame.
+//! What goes over the bus: strokes and numbers, and how an item of each kind stands in a frame.
 
 #![tactic(auto)]
 

@@ -1,4 +1,4 @@
-// Numbers, as frames carry them: a canister to stir, for one.
+//! Numbers, as frames carry them: a canister to stir, for one.
 ghost use Rattle.frame.specs.Bytes.{be8};
 ghost use Rattle.std.proofs.Common.{rules};
 

@@ -1,16 +1,16 @@
-// Strokes, as frames carry them.
+//! Strokes, as frames carry them.
 ghost use Rattle.std.specs.Prelude.{◌∷◌};
 ghost use Rattle.frame.specs.Bytes.{be2};
 ghost use Rattle.std.proofs.Common.{rules};
 
 use crate::framed::Framed;
 
-// One stroke: how much paint one valve lets out.
+/// One stroke: how much paint one valve lets out.
 #[derive(Clone, Copy, Debug, PartialEq, Eq)]
 pub struct Stroke {
-    // the canister's valve, 0 to 15 in every ticket that loads
+    /// the canister's valve, 0 to 15 in every ticket that loads
     pub valve: u8,
-    // in hundredths of a ml
+    /// in hundredths of a ml
     pub volume: u16,
 }
 

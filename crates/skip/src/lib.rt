@@ -1,4 +1,4 @@
-// Skip: the cursor below it without its first n items. Carried over from core::iter's skip.rs.
+//! Skip: the cursor below it without its first n items. Carried over from core::iter's skip.rs.
 
 #![tactic(auto, using(crate::proofs::Skips::skips, cursor::proofs::Costs::costs, cursor::proofs::Laws::places, cursor::proofs::Laws::cuts))]
 
@@ -14,9 +14,9 @@ use cursor::{Cursor, Homing, TwoEnded};
 #[derive(Drop)]
 pub struct Skip<C> {
     iter: C,
-    // how many items below are still to be left out
+    /// how many items below are still to be left out
     n: u64,
-    // the same for the home
+    /// the same for the home
     home: u64,
 }
 

@@ -1,4 +1,4 @@
-// Take: the first n items of the cursor below it. Carried over from core::iter's take.rs.
+//! Take: the first n items of the cursor below it. Carried over from core::iter's take.rs.
 
 #![tactic(auto, using(crate::proofs::Takes::takes, cursor::proofs::Costs::costs, cursor::proofs::Laws::places, cursor::proofs::Laws::cuts))]
 
@@ -14,9 +14,9 @@ use cursor::{Cursor, Homing, TwoEnded};
 #[derive(Drop)]
 pub struct Take<C> {
     iter: C,
-    // how many items are still to be shown, as far as there are so many
+    /// how many items are still to be shown, as far as there are so many
     n: u64,
-    // the same for the home
+    /// the same for the home
     home: u64,
 }
 

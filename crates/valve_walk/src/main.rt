@@ -1,4 +1,4 @@
-// Loads a sample ticket, and walks its valve row from both ends.
+//! Loads a sample ticket, and walks its valve row from both ends.
 
 #![tactic(auto)]
 
@@ -8,7 +8,7 @@ use ticket::loading::load;
 
 mod walk;
 
-// Can 7 of 1000 ml; one purge, two tints.
+/// Can 7 of 1000 ml; one purge, two tints.
 const SAMPLE: &[u8] =
     b"\x01\x00\x00\x00\x07\x03\xE8\x03\x05\x00\x0A\x02\x01\x00\x64\x02\x02\x00\xC8\x06\x00\x00\x00\x00\x00\x00\x00\x02\x0F\x00\x03";
 

@@ -1,4 +1,4 @@
-// The valve row of a loaded ticket: what the valve board will be given, in order.
+//! The valve row of a loaded ticket: what the valve board will be given, in order.
 use chain::Chain;
 use cursor::slice::SliceLeaf;
 use cursor::{Cursor, Homing, TwoEnded};
@@ -7,7 +7,7 @@ use skip::Skip;
 use std::io;
 use take::Take;
 
-// Shows the purges and then the tints, without the first `resume`, at most `limit`: from the front, and from the back.
+/// Shows the purges and then the tints, without the first `resume`, at most `limit`: from the front, and from the back.
 pub(crate) fn show_valve_row(
     rt: &HostRuntime,
     purges: &[Stroke],

@@ -1,4 +1,4 @@
-// The calls of the count leaf: each is one touch.
+//! The calls of the count leaf: each is one touch.
 ghost use Rattle.std.specs.Prelude.{◌≡◌};
 ghost use Rattle.cursor.specs.Rows.{window, numbers};
 ghost use Rattle.cursor.specs.Calls.{Touched};

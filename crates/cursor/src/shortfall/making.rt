@@ -1,4 +1,4 @@
-// The making of a shortfall: none is made of 0.
+//! The making of a shortfall: none is made of 0.
 ghost use Rattle.std.specs.Prelude.{◌≡◌};
 ghost use Rattle.cursor.specs.Calls.{lack};
 ghost use Rattle.cursor.specs.NonZero.{shortfall_of};
@@ -6,7 +6,7 @@ ghost use Rattle.cursor.specs.NonZero.{shortfall_of};
 use crate::shortfall::Shortfall;
 
 impl Shortfall {
-    // A shortfall of so many places, or none if nothing is missing.
+    /// A shortfall of so many places, or none if nothing is missing.
     pub fn new(places: u64) -> Option<Shortfall>
         ensures { result ≡ shortfall_of places }
     {
@@ -24,8 +24,8 @@ impl Shortfall {
     }
 }
 
-// What an advance answers that lacks so many places: done, if it lacks none. This and its reverse are functions: neither of
-// the two types is this crate's, so it can give them no `From`.
+/// What an advance answers that lacks so many places: done, if it lacks none. This and its reverse are functions: neither of
+/// the two types is this crate's, so it can give them no `From`.
 pub fn short_by(places: u64) -> Result<(), Shortfall>
     ensures { lack result ≡ places }
 {
@@ -36,7 +36,7 @@ pub fn short_by(places: u64) -> Result<(), Shortfall>
     }
 }
 
-// By how many places an advance fell short; 0 if it is done.
+/// By how many places an advance fell short; 0 if it is done.
 pub fn lacking(answer: Result<(), Shortfall>) -> u64
     ensures { result ≡ lack answer }
 {

@@ -1,4 +1,4 @@
-// The calls of the slice leaf: each is one touch.
+//! The calls of the slice leaf: each is one touch.
 ghost use Rattle.std.specs.Prelude.{◌≡◌};
 ghost use Rattle.std.specs.List.{slice_get};
 ghost use Rattle.cursor.specs.Rows.{window};
@@ -13,7 +13,7 @@ use crate::{Cursor, Homing, TwoEnded};
 
 #[tactic(auto, using(crate::proofs::Spans::calls))]
 impl<'a, T: Copy> SliceLeaf<'a, T> {
-    // The whole slice.
+    /// The whole slice.
     pub fn new(items: &'a [T]) -> Self
         ensures row { slice_row result ≡ slice_get items.now }
         ensures home { slice_home result ≡ slice_get items.now }
@@ -22,7 +22,7 @@ impl<'a, T: Copy> SliceLeaf<'a, T> {
         Self::part(items, 0, items.len() as u64)
     }
 
-    // Its items at the places from lo up to hi - 1, as far as it has them.
+    /// Its items at the places from lo up to hi - 1, as far as it has them.
     pub fn part(items: &'a [T], lo: u64, hi: u64) -> Self
         ensures row { slice_row result ≡ window lo hi (slice_get items.now) }
         ensures home { slice_home result ≡ window lo hi (slice_get items.now) }

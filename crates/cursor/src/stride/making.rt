@@ -1,4 +1,4 @@
-// The making of a stride, which may be refused.
+//! The making of a stride, which may be refused.
 ghost use Rattle.std.specs.Prelude.{◌≡◌};
 ghost use Rattle.cursor.specs.NonZero.{stride_of, one_stride, stride_number};
 
@@ -6,7 +6,7 @@ use crate::stride::{Stride, StrideFault};
 use refusal::Refusal;
 
 impl Stride {
-    // A stride of so many steps; 0 is refused.
+    /// A stride of so many steps; 0 is refused.
     pub fn new(steps: u64) -> Result<Stride, StrideFault>
         ensures { result ≡ stride_of steps }
     {
@@ -17,7 +17,7 @@ impl Stride {
         }
     }
 
-    // The stride that leaves no item out.
+    /// The stride that leaves no item out.
     #[tactic(auto, using(crate::proofs::NonZero::same_stride))]
     pub fn one() -> Stride
         ensures { result ≡ one_stride }
