@@ -70,11 +70,11 @@ module _ {A : Type 0} (r : Row A) (p : Places) (x : A) where
 
 -- what each kind of item shows of its frames
 pub record Apt {A : Type 0} (g : Framed.Ghosts A) : Type 0 where
-  pub free : Free g.kind
+  pub free : Free g.KIND
   pub told : (x y : A) → g.body x ≡ g.body y → x ≡ y
 
 -- the frame tells the item
-framed_item : {A : Type 0} (g : Framed.Ghosts A) → Apt g → (d : ℕ) (a : Answer A) (x : A) → frame g d a ≡ g.kind ∷ (d ∷ g.body x) → a ≡ Item (Some x)
+framed_item : {A : Type 0} (g : Framed.Ghosts A) → Apt g → (d : ℕ) (a : Answer A) (x : A) → frame g d a ≡ g.KIND ∷ (d ∷ g.body x) → a ≡ Item (Some x)
 framed_item g t d (Item None) x e = absurd (t.free.none (cc))
 framed_item g t d (Item (Some y)) x e = ap (λ z. Item (Some z)) (t.told y x (cc))
 framed_item g t d (Advanced s) x e = absurd (t.free.advance (cc))

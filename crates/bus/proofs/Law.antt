@@ -89,9 +89,9 @@ module _ {I : Party → Type 0} (k : Kinds I) (f : State I) (apt : (p : Party) �
 
 -- three kinds of items, by party
 pub apts : {A B C : Type 0} (f : Framed.Ghosts A) (g : Framed.Ghosts B) (h : Framed.Ghosts C) →
-    Free f.kind → ((x y : A) → f.body x ≡ f.body y → x ≡ y) →
-    Free g.kind → ((x y : B) → g.body x ≡ g.body y → x ≡ y) →
-    Free h.kind → ((x y : C) → h.body x ≡ h.body y → x ≡ y) → (p : Party) → Apt (framings f g h p)
+    Free f.KIND → ((x y : A) → f.body x ≡ f.body y → x ≡ y) →
+    Free g.KIND → ((x y : B) → g.body x ≡ g.body y → x ≡ y) →
+    Free h.KIND → ((x y : C) → h.body x ≡ h.body y → x ≡ y) → (p : Party) → Apt (framings f g h p)
 apts f g h a b c d i j Valve = record { free = a; told = b }
 apts f g h a b c d i j Label = record { free = c; told = d }
 apts f g h a b c d i j Stir = record { free = i; told = j }

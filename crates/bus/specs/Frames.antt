@@ -40,6 +40,6 @@ leaves q r = cond (is_back q.call) (first (size r - reach q) r) (after (reach q)
 
 -- the frame of an item, of none and of an advance, with the line byte d
 abbrev pub frame : {A : Type 0} → Framed.Ghosts A → ℕ → Answer A → List ℕ
-frame f d (Item (Some x)) = f.kind ∷ d ∷ f.body x
+frame f d (Item (Some x)) = f.KIND ∷ d ∷ f.body x
 frame f d (Item None) = 0x25 ∷ d ∷ []
 frame f d (Advanced s) = 0x26 ∷ d ∷ be8 s

@@ -58,7 +58,7 @@ whom e older = serves e.asked (run (asks older))
 
 -- what is heard where an item is shown, with the line byte d
 abbrev pub item_shown : {A : Type 0} → Framed.Ghosts A → ℕ → A → Heard
-item_shown g d x = shown (g.kind ∷ (d ∷ g.body x))
+item_shown g d x = shown (g.KIND ∷ (d ∷ g.body x))
 
 -- a call hands out the item x: it hands out a place of the first row at which x stands
 abbrev pub Handed : {A : Type 0} → Option Request → Row A → Places → A → Type 0

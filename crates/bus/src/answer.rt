@@ -58,9 +58,9 @@ impl<T: Framed> Answer<T> {
         out[1] = line;
         match self {
             Answer::Item(Some(item)) => {
-                out[0] = T::kind_byte();
+                out[0] = T::KIND;
                 item.write(&mut out[2..]);
-                2 + T::body_len()
+                2 + T::BODY
             }
             Answer::Item(None) => {
                 out[0] = NONE;
@@ -69,7 +69,7 @@ impl<T: Framed> Answer<T> {
             Answer::Advanced(short) => {
                 out[0] = ADVANCE;
                 short.write(&mut out[2..]);
-                2 + u64::body_len()
+                2 + u64::BODY
             }
         }
     }

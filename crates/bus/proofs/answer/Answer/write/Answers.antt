@@ -5,7 +5,7 @@ use Rattle.bus.proofs.answer.Answer.write.Goals as goal
 
 pub returns-in-Item-Some : goal.returns-in-Item-Some
 returns-in-Item-Some g c =
-    let t = two_then c.kind_byte.result c.args.line c.args.out.now (g.T.Framed.body c.in-Item-Some.item) c.write.new.out (omega arith) c.write.ensures in
+    let t = two_then c.KIND.result c.args.line c.args.out.now (g.T.Framed.body c.in-Item-Some.item) c.write.new.out (omega arith) c.write.ensures in
     let z = g.met.T.Framed.sized c.in-Item-Some.item in
     search rules
 
