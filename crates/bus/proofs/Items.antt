@@ -41,7 +41,7 @@ module _ {A : Type 0} (r : Row A) (p : Places) (x : A) (n m : ℕ) (e : m ≡ n 
     unfolding back_at
     back_shows i j k = let s = coming_size r p (size r) h (size_fits r) in grind (arith, nat_tests, h.inside, h.outside)
 
-abbrev request : Call → ℕ → Request
+abbrev request : Call → ℕ → Request Call
 request c n = record { call = c; n = n }
 
 -- a call's answer is an item exactly where it hands out a place that holds it
@@ -83,7 +83,7 @@ frame_is : (a b : List ℕ) → shown a ≡ shown b → a ≡ b
 frame_is a b e = cc
 
 -- a call of the pile shows just what it hands out
-pub shows_call : {A : Type 0} (g : Framed.Ghosts A) → Apt g → (d : ℕ) (q : Request) (r : Row A) (p : Places) → (is_back q.call ≡ true → Length r (size r)) →
+pub shows_call : {A : Type 0} (g : Framed.Ghosts A) → Apt g → (d : ℕ) (q : Request Call) (r : Row A) (p : Places) → (is_back q.call ≡ true → Length r (size r)) →
     ShowsJust g d (Some q) r p (shown (frame g d (answer q (coming r p))))
 shows_call g t d q r p h x = (
   λ a. ap (λ y. shown (frame g d y)) (call_shows r p x q.call q.n h a),

@@ -7,6 +7,7 @@ use Rattle.frame.specs.declared.framed.Framed as Framed
 use Rattle.bus.specs.declared.fault.Fault.{Fault}
 use Rattle.bus.specs.declared.party.Party.{Party}
 use Rattle.bus.specs.declared.party.Party.TheVariants.{Valve, Label, Stir}
+use Rattle.bus.specs.declared.request.Call.{Call}
 use Rattle.bus.specs.declared.request.Request.{Request}
 use Rattle.bus.specs.Numbers.{number, same, is_back}
 use Rattle.bus.specs.Waiting.{Served, told, turn, asks_of}
@@ -37,10 +38,10 @@ module _ {I : Party → Type 0} (k : Kinds I) (f : State I) (apt : (p : Party) �
   nobody_shown : (q : Plain) (h : Heard) → line_byte h ≡ 0 → ShowsTurn q None h
   nobody_shown q h e p = shows_none (k.framing p) (number p) (rows f p) (q.places p) h (λ i. nonzero p (sym e ∙ i))
 
-  abbrev heard_of : Plain → Party → Request → Heard
+  abbrev heard_of : Plain → Party → Request Call → Heard
   heard_of q x o = shown (frame (k.framing x) (number x) (answer o (coming (rows f x) (q.places x))))
 
-  one_shown : (q : Plain) (x : Party) (o : Request) → (is_back o.call ≡ true → Length (rows f x) (size (rows f x))) →
+  one_shown : (q : Plain) (x : Party) (o : Request Call) → (is_back o.call ≡ true → Length (rows f x) (size (rows f x))) →
       ShowsTurn q (Some (record { party = x; request = o })) (heard_of q x o)
   one_shown q x o h p = go (same p x) refl
     where

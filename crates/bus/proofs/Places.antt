@@ -5,6 +5,7 @@ use Rattle.std.proofs.lemmas.Bool.Decides.{nat_tests}
 use Rattle.cursor.specs.Rows.{Row, Closed, Length, after, first, size}
 use Rattle.cursor.specs.Closing.{closed_on}
 use Rattle.cursor.proofs.Laws.{size_length, size_fits}
+use Rattle.bus.specs.declared.request.Call.{Call}
 use Rattle.bus.specs.declared.request.Request.{Request}
 use Rattle.bus.specs.Numbers.{is_back}
 use Rattle.bus.specs.Frames.{reach, leaves}
@@ -35,7 +36,7 @@ module _ {A : Type 0} (r : Row A) (p : Places) where
     back_left m = let s = coming_size in fun_ext (λ i. grind (arith, nat_tests, h.inside (p.front + i), h.inside ((p.front + i) + p.back), h.inside ((p.front + i) + (p.back + m)), h.outside ((p.front + i) + (p.back + m))))
 
   -- the row that a call leaves of the items at the places still to come
-  pub coming_leaves : (q : Request) → (is_back q.call ≡ true → Length r (size r)) → leaves q (coming r p) ≡ coming r (less (Some q) p)
+  pub coming_leaves : (q : Request Call) → (is_back q.call ≡ true → Length r (size r)) → leaves q (coming r p) ≡ coming r (less (Some q) p)
   coming_leaves q h = go (is_back q.call) refl
     where
       go : (b : Bool) → is_back q.call ≡ b →
@@ -53,7 +54,7 @@ pub some_before : {A : Type 0} (r : Row A) → Closed r → (i j : ℕ) → i �
 some_before r c i j h = let z : i + (j - i) ≡ j = omega arith in some_or (r i) (r j) (λ n. sym (ap r z) ∙ closed_on r c i (j - i) n)
 
 -- a place still to come is so after a call too, or the call takes it, at one end
-pub takes_one : {A : Type 0} (r : Row A) → Closed r → (o : Option Request) (p : Places) (i : ℕ) →
+pub takes_one : {A : Type 0} (r : Row A) → Closed r → (o : Option (Request Call)) (p : Places) (i : ℕ) →
     times (to_come r p i) ≡ times (to_come r (less o p) i) + (times (takes at_front o r p i) + times (takes at_back o r p i))
 takes_one r c None p i = omega arith
 takes_one r c (Some q) p i = go (is_back q.call)

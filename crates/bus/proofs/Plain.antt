@@ -6,6 +6,7 @@ use Rattle.std.proofs.lemmas.Bool.Decides.{nat_tests}
 use Rattle.cursor.specs.Rows.{Row, Length, size}
 use Rattle.bus.specs.declared.fault.Fault.{Fault}
 use Rattle.bus.specs.declared.party.Party.{Party}
+use Rattle.bus.specs.declared.request.Call.{Call}
 use Rattle.bus.specs.declared.request.Request.{Request}
 use Rattle.bus.specs.Numbers.{is_back}
 use Rattle.bus.specs.Waiting.{admit, kept, verdict, turn, freed, asks_of}
@@ -23,8 +24,8 @@ pub tail_is : {A : Type 0} (x y : A) (l m : List A) → x ∷ l ≡ y ∷ m → 
 tail_is x y l m e = cc
 
 -- a pile's row after a call of it
-called_row : {A : Type 0} (r : Row A) (p : Places) (w : ℕ) (o : Option Request) (s t : Pile A) → CalledIf w o s t → s.row ≡ coming r p →
-    ((q : Request) → o ≡ Some q → is_back q.call ≡ true → Length r (size r)) → t.row ≡ coming r (less o p)
+called_row : {A : Type 0} (r : Row A) (p : Places) (w : ℕ) (o : Option (Request Call)) (s t : Pile A) → CalledIf w o s t → s.row ≡ coming r p →
+    ((q : Request Call) → o ≡ Some q → is_back q.call ≡ true → Length r (size r)) → t.row ≡ coming r (less o p)
 called_row r p w None s t d e h = ap (λ x. x.row) d ∙ e
 called_row r p w (Some q) s t d e h = d.rest ∙ ap (leaves q) e ∙ coming_leaves r p q (h q refl)
 

@@ -1,5 +1,5 @@
 -- One call of a bus: its promise from what the code's own calls promise.
-use Rattle.std.proofs.Common.{◌≡◌, ℕ, ◌≤◌, true, List, length, Some, None, Ok, Err, Option, Result, sym, refl, ap, ◌∙◌, subst, ap₂, arith}
+use Rattle.std.proofs.Common.{◌≡◌, ℕ, ◌≤◌, true, List, length, Some, None, Ok, Err, Option, Result, ok_or, sym, refl, ap, ◌∙◌, subst, ap₂, arith}
 use mathlib.Core.Path.{fun_ext}
 use Rattle.std.proofs.lemmas.Bool.Decides.{nat_tests}
 use Rattle.cursor.specs.Rows.{Closed, Length, size}
@@ -7,53 +7,79 @@ use Rattle.cursor.specs.declared.Cursor as Cursor
 use Rattle.frame.specs.Bytes.{over}
 use Rattle.bus.specs.declared.Bus.{Bus}
 use Rattle.bus.specs.declared.fault.Fault.{Fault}
+use Rattle.bus.specs.declared.fault.Fault.TheVariants.{UnknownParty, UnknownCall}
 use Rattle.bus.specs.declared.party.Party.{Party}
 use Rattle.bus.specs.declared.party.Party.TheVariants.{Valve, Label, Stir}
 use Rattle.bus.specs.declared.request.Call.{Call}
 use Rattle.bus.specs.declared.request.Request.{Request}
 use Rattle.bus.specs.declared.waits.Waits.{Waits}
-use Rattle.bus.specs.Numbers.{number, party_of, has_back, call_of}
-use Rattle.bus.specs.Waiting.{Waiting, Served, waiting, seat, admit, kept, told, verdict, turn, freed, asks_of}
+use Rattle.bus.specs.Numbers.{number, party_of, has_back, call_of, fault_number}
+use Rattle.bus.specs.Waiting.{Served, widened_if, waiting, seat, admit_read, admit, kept, told, verdict, turn, freed, asks_of}
 use Rattle.bus.specs.State.{State, Kinds, rows, framed, Called, CalledIf, PutDone, ExchangeDone, New, pile_of, piles, meant, weights}
-use Rattle.bus.specs.Promises.{fresh}
 
 -- a new bus: its rows are closed, and those of the valve and the label have an end, since `len` says so
-module _ {V L S A B C : Type 0} (v : Cursor.Ghosts V A) (l : Cursor.Ghosts L B) (s : Cursor.Ghosts S C) (x : V) (y : L) (z : S) where
-  nobody_waits : (p : Party) → waiting (fresh x y z).waits p ≡ None
-  nobody_waits Valve = refl
-  nobody_waits Label = refl
-  nobody_waits Stir = refl
+module _ {V L S A B C : Type 0} (v : Cursor.Ghosts V A) (l : Cursor.Ghosts L B) (s : Cursor.Ghosts S C) (w : Waits) (x : V) (y : L) (z : S) where
+  abbrev made : Bus V L S
+  made = record { waits = w; valve = x; label = y; stir = z }
 
-  rows_closed : (p : Party) → Closed (rows (meant v l s (fresh x y z)) p)
+  rows_closed : (p : Party) → Closed (rows (meant v l s made) p)
   rows_closed Valve = v.closed x
   rows_closed Label = l.closed y
   rows_closed Stir = s.closed z
 
+  nobody_waits : w.valve ≡ None → w.label ≡ None → w.stir ≡ None → (p : Party) → waiting w p ≡ None
+  nobody_waits a b c Valve = a
+  nobody_waits a b c Label = b
+  nobody_waits a b c Stir = ap widened_if c
+
   rows_end : (m n : ℕ) → m ≡ size (v.row x) → Length (v.row x) m → n ≡ size (l.row y) → Length (l.row y) n →
-      (p : Party) → has_back p ≡ true → Length (rows (meant v l s (fresh x y z)) p) (size (rows (meant v l s (fresh x y z)) p))
+      (p : Party) → has_back p ≡ true → Length (rows (meant v l s made) p) (size (rows (meant v l s made) p))
   rows_end m n a b c d Valve e = subst (Length (v.row x)) a b
   rows_end m n a b c d Label e = subst (Length (l.row y)) c d
-  rows_end m n a b c d Stir e = absurd (let t : ◌≡◌ {A = ℕ} 0 1 = cc in omega arith)
+  rows_end m n a b c d Stir e = absurd (cc)
 
-  pub new_bus : (m n : ℕ) → m ≡ size (v.row x) → Length (v.row x) m → n ≡ size (l.row y) → Length (l.row y) n → New (meant v l s (fresh x y z))
-  new_bus m n a b c d = record { waits = fun_ext nobody_waits; closed = rows_closed; finite = rows_end m n a b c d }
+  pub new_bus : w.valve ≡ None → w.label ≡ None → w.stir ≡ None →
+      (m n : ℕ) → m ≡ size (v.row x) → Length (v.row x) m → n ≡ size (l.row y) → Length (l.row y) n → New (meant v l s made)
+  new_bus e f g m n a b c d = record { waits = fun_ext (nobody_waits e f g); closed = rows_closed; finite = rows_end m n a b c d }
 
--- a party and a call by their numbers
+-- a party and a call as they are read from their numbers
 party_number : (b : ℕ) (p : Party) → Some p ≡ party_of b → number p ≡ b
 party_number b Valve e = grind (arith, nat_tests)
 party_number b Label e = grind (arith, nat_tests)
 party_number b Stir e = grind (arith, nat_tests)
 
-admitted : (p c n : ℕ) (q : Party) (d : Call) (w : Waiting) → Some q ≡ party_of p → Some d ≡ call_of c → seat q d n w ≡ admit p c n w
-admitted p c n q d w e f = ap₂ (λ (o : Option Party) (m : Option Call). elim o [ None ↦ Err 21 | Some x ↦ elim m [ None ↦ Err 22 | Some y ↦ seat x y n w ] ]) e f
+read : {A : Type 0} (o : Option A) (x : A) (f : Fault) → Ok x ≡ ok_or o f → Some x ≡ o
+read None x f e = cc
+read (Some y) x f e = cc
 
-pub put_done : {I : Party → Type 0} (s t : State I) (p c n : ℕ) (q : Party) (d : Call) (r : Result Party Fault) → Some q ≡ party_of p → Some d ≡ call_of c →
-    told r ≡ verdict (number q) (seat q d n s.waits) → t.waits ≡ kept (seat q d n s.waits) s.waits → ((x : Party) → t.pile x ≡ s.pile x) → PutDone s p c n r t
-put_done s t p c n q d r e f a w m = record {
-  answer = a ∙ ap₂ verdict (party_number p q e) (admitted p c n q d s.waits e f);
-  waits = w ∙ ap (λ x. kept x s.waits) (admitted p c n q d s.waits e f);
-  piles = m;
-}
+unread : {A : Type 0} (o : Option A) (e f : Fault) → Err e ≡ ok_or o f → (e ≡ f) × (o ≡ None)
+unread None e f i = (cc, refl)
+unread (Some y) e f i = absurd (cc)
+
+-- a put of a party that there is, and of a call that there is, is that of its request
+pub put_done : {I : Party → Type 0} (s t : State I) (p c n : ℕ) (q : Party) (d : Call) (r : Result Party Fault) →
+    Ok q ≡ ok_or (party_of p) UnknownParty → Ok d ≡ ok_or (call_of c) UnknownCall →
+    told r ≡ verdict (number q) (seat q (record { call = d; n = n }) s.waits) → t.waits ≡ kept (seat q (record { call = d; n = n }) s.waits) s.waits →
+    ((x : Party) → t.pile x ≡ s.pile x) → PutDone s p c n r t
+put_done s t p c n q d r e f a w m =
+    let x = read _ q _ e in
+    let y = ap₂ (λ o u. admit_read o u n s.waits) x (read _ d _ f) in
+    record { answer = a ∙ ap₂ verdict (party_number p q x) y; waits = w ∙ ap (λ v. kept v s.waits) y; piles = m }
+
+-- a put of a party that there is not
+pub party_unknown : {I : Party → Type 0} (s : State I) (p c n : ℕ) (r : Result Party Fault) (e : Fault) → r ≡ Err e → Err e ≡ ok_or (party_of p) UnknownParty → PutDone s p c n r s
+party_unknown s p c n r e h i =
+    let z = unread _ e _ i in
+    let y = ap (λ o. admit_read o (call_of c) n s.waits) z.1 in
+    record { answer = ap told h ∙ ap (λ f. Err (fault_number f)) z.0 ∙ sym (ap (verdict p) y); waits = sym (ap (λ v. kept v s.waits) y); piles = λ _. refl }
+
+-- a put of a call that there is not
+pub call_unknown : {I : Party → Type 0} (s : State I) (p c n : ℕ) (q : Party) (r : Result Party Fault) (e : Fault) → r ≡ Err e →
+    Ok q ≡ ok_or (party_of p) UnknownParty → Err e ≡ ok_or (call_of c) UnknownCall → PutDone s p c n r s
+call_unknown s p c n q r e h i j =
+    let z = unread _ e _ j in
+    let y = ap₂ (λ o u. admit_read o u n s.waits) (sym (read _ q _ i)) z.1 in
+    record { answer = ap told h ∙ ap (λ f. Err (fault_number f)) z.0 ∙ sym (ap (verdict p) y); waits = sym (ap (λ v. kept v s.waits) y); piles = λ _. refl }
 
 -- an exchange with room that serves u
 pub exchanged : {I : Party → Type 0} (k : Kinds I) (s t : State I) (u v : Option Served) (out out' : List ℕ) (n : ℕ) → 10 ≤ length out →
@@ -79,19 +105,19 @@ module _ {V L S A B C : Type 0} (v : Cursor.Ghosts V A) (l : Cursor.Ghosts L B) 
   none_called Label = refl
   none_called Stir = refl
 
-  pub valve_called : (x : V) (q : Request) → Called v.weight q (pile_of v b.valve) (pile_of v x) → (p : Party) →
+  pub valve_called : (x : V) (q : Request Call) → Called v.weight q (pile_of v b.valve) (pile_of v x) → (p : Party) →
       CalledIf (weights v l s p) (asks_of p (Some (record { party = Valve; request = q }))) (piles v l s b p) (piles v l s (record { waits = w; valve = x; label = b.label; stir = b.stir }) p)
   valve_called x q h Valve = h
   valve_called x q h Label = refl
   valve_called x q h Stir = refl
 
-  pub label_called : (x : L) (q : Request) → Called l.weight q (pile_of l b.label) (pile_of l x) → (p : Party) →
+  pub label_called : (x : L) (q : Request Call) → Called l.weight q (pile_of l b.label) (pile_of l x) → (p : Party) →
       CalledIf (weights v l s p) (asks_of p (Some (record { party = Label; request = q }))) (piles v l s b p) (piles v l s (record { waits = w; valve = b.valve; label = x; stir = b.stir }) p)
   label_called x q h Valve = refl
   label_called x q h Label = h
   label_called x q h Stir = refl
 
-  pub stir_called : (x : S) (q : Request) → Called s.weight q (pile_of s b.stir) (pile_of s x) → (p : Party) →
+  pub stir_called : (x : S) (q : Request Call) → Called s.weight q (pile_of s b.stir) (pile_of s x) → (p : Party) →
       CalledIf (weights v l s p) (asks_of p (Some (record { party = Stir; request = q }))) (piles v l s b p) (piles v l s (record { waits = w; valve = b.valve; label = b.label; stir = x }) p)
   stir_called x q h Valve = refl
   stir_called x q h Label = refl

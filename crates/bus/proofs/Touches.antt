@@ -3,6 +3,7 @@ use Rattle.std.proofs.Common.{◌≡◌, ℕ, ◌+◌, ◌-◌, ◌≤◌, Bool,
 use Rattle.bus.specs.declared.fault.Fault.{Fault}
 use Rattle.bus.specs.declared.party.Party.{Party}
 use Rattle.bus.specs.declared.party.Party.TheVariants.{Valve, Label, Stir}
+use Rattle.bus.specs.declared.request.Call.{Call}
 use Rattle.bus.specs.declared.request.Request.{Request}
 use Rattle.bus.specs.Waiting.{Served, admit, verdict, turn, asks_of}
 use Rattle.bus.specs.State.{State, Pile, Kinds, Rows, CalledIf, ExchangeDone}
@@ -23,7 +24,7 @@ module _ {I : Party → Type 0} (w : Party → ℕ) (s t : State I) where
   none_rises m =
       let a = tally_is _ _ (m Valve) in let b = tally_is _ _ (m Label) in let c = tally_is _ _ (m Stir) in (omega arith, omega arith)
 
-  one_rises : (x : Party) (q : Request) → ((p : Party) → CalledIf (w p) (asks_of p (Some (record { party = x; request = q }))) (s.pile p) (t.pile p)) → Rises (w x) s t
+  one_rises : (x : Party) (q : Request Call) → ((p : Party) → CalledIf (w p) (asks_of p (Some (record { party = x; request = q }))) (s.pile p) (t.pile p)) → Rises (w x) s t
   one_rises Valve q m = let a = m Valve in let b = tally_is _ _ (m Label) in let c = tally_is _ _ (m Stir) in (omega arith, omega arith)
   one_rises Label q m = let a = tally_is _ _ (m Valve) in let b = m Label in let c = tally_is _ _ (m Stir) in (omega arith, omega arith)
   one_rises Stir q m = let a = tally_is _ _ (m Valve) in let b = tally_is _ _ (m Label) in let c = m Stir in (omega arith, omega arith)

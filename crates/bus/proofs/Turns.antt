@@ -7,7 +7,7 @@ use Rattle.bus.specs.declared.request.Call.{Call}
 use Rattle.bus.specs.declared.request.Request.{Request}
 use Rattle.bus.specs.Numbers.{same, party_of, has_back, call_of, is_back}
 use Rattle.bus.specs.Law.{load}
-use Rattle.bus.specs.Waiting.{Waiting, Served, placed, seat, admit, kept, verdict, lowest, turn, freed, asks_of}
+use Rattle.bus.specs.Waiting.{Waiting, Served, placed, seat, admit_read, admit, kept, verdict, lowest, turn, freed, asks_of}
 
 pub false_true : {X : Type 0} → false ≡ true → X
 false_true e = absurd (let z : ◌≡◌ {A = ℕ} 0 1 = cc in omega arith)
@@ -28,45 +28,45 @@ same_party Stir Stir e = refl
 
 -- a request that waits from the back waits for a pile that has one
 abbrev pub Sound : Waiting → Type 0
-Sound w = (p : Party) (q : Request) → w p ≡ Some q → is_back q.call ≡ true → has_back p ≡ true
+Sound w = (p : Party) (q : Request Call) → w p ≡ Some q → is_back q.call ≡ true → has_back p ≡ true
 
-placed_sound : (x : Party) (o : Option Request) (w : Waiting) → Sound w → ((q : Request) → o ≡ Some q → is_back q.call ≡ true → has_back x ≡ true) → Sound (placed x o w)
+placed_sound : (x : Party) (o : Option (Request Call)) (w : Waiting) → Sound w → ((q : Request Call) → o ≡ Some q → is_back q.call ≡ true → has_back x ≡ true) → Sound (placed x o w)
 placed_sound x o w h n p q = go (same p x) refl
   where
     go : (b : Bool) → same p x ≡ b → cond b o (w p) ≡ Some q → is_back q.call ≡ true → has_back p ≡ true
     go true s e t = ap has_back (same_party p x s) ∙ n q e t
     go false s e t = h p q e t
 
-seat_sound : (x : Party) (c : Call) (n : ℕ) (w : Waiting) → Sound w → Sound (kept (seat x c n w) w)
-seat_sound x c n w h = go (is_back c && not (has_back x)) refl (is_some (w x))
+seat_sound : (x : Party) (o : Request Call) (w : Waiting) → Sound w → Sound (kept (seat x o w) w)
+seat_sound x o w h = go (is_back o.call && not (has_back x)) refl (is_some (w x))
   where
-    fits : (is_back c && not (has_back x)) ≡ false → (q : Request) → Some (record { call = c; n = n }) ≡ Some q → is_back q.call ≡ true → has_back x ≡ true
-    fits e q s t = let u : c ≡ q.call = cc in grind (arith, nat_tests)
+    fits : (is_back o.call && not (has_back x)) ≡ false → (q : Request Call) → Some o ≡ Some q → is_back q.call ≡ true → has_back x ≡ true
+    fits e q s t = let u : o ≡ q = cc in grind (arith, nat_tests)
 
-    go : (b : Bool) → (is_back c && not (has_back x)) ≡ b → (d : Bool) → Sound (kept (cond b (Err 23) (cond d (Err 24) (Ok (placed x (Some (record { call = c; n = n })) w)))) w)
+    go : (b : Bool) → (is_back o.call && not (has_back x)) ≡ b → (d : Bool) → Sound (kept (cond b (Err 23) (cond d (Err 24) (Ok (placed x (Some o) w)))) w)
     go true e d = h
     go false e true = h
-    go false e false = placed_sound x (Some (record { call = c; n = n })) w h (fits e)
+    go false e false = placed_sound x (Some o) w h (fits e)
 
 pub admit_sound : (p c n : ℕ) (w : Waiting) → Sound w → Sound (kept (admit p c n w) w)
 admit_sound p c n w h = go (party_of p) (call_of c)
   where
-    go : (o : Option Party) (m : Option Call) → Sound (kept (elim o [ None ↦ Err 21 | Some x ↦ elim m [ None ↦ Err 22 | Some y ↦ seat x y n w ] ]) w)
+    go : (o : Option Party) (m : Option Call) → Sound (kept (admit_read o m n w) w)
     go None m = h
     go (Some x) None = h
-    go (Some x) (Some y) = seat_sound x y n w h
+    go (Some x) (Some y) = seat_sound x (record { call = y; n = n }) w h
 
 pub freed_sound : (u : Option Served) (w : Waiting) → Sound w → Sound (freed u w)
 freed_sound None w h = h
 freed_sound (Some u) w h = placed_sound u.party None w h (λ q e. none_some q e)
 
 -- whoever is served has waited
-abbrev three : Option Request → Option Request → Option Request → Party → Option Request
+abbrev three : Option (Request Call) → Option (Request Call) → Option (Request Call) → Party → Option (Request Call)
 three a b c Valve = a
 three a b c Label = b
 three a b c Stir = c
 
-lowest_waits : (a b c : Option Request) (p : Party) (q : Request) → asks_of p (lowest a b c) ≡ Some q → three a b c p ≡ Some q
+lowest_waits : (a b c : Option (Request Call)) (p : Party) (q : Request Call) → asks_of p (lowest a b c) ≡ Some q → three a b c p ≡ Some q
 lowest_waits (Some x) b c Valve q e = e
 lowest_waits (Some x) b c Label q e = none_some q e
 lowest_waits (Some x) b c Stir q e = none_some q e
@@ -78,20 +78,20 @@ lowest_waits None None (Some x) Label q e = none_some q e
 lowest_waits None None (Some x) Stir q e = e
 lowest_waits None None None p q e = none_some q e
 
-pub turn_waits : (w : Waiting) (p : Party) (q : Request) → asks_of p (turn w) ≡ Some q → w p ≡ Some q
+pub turn_waits : (w : Waiting) (p : Party) (q : Request Call) → asks_of p (turn w) ≡ Some q → w p ≡ Some q
 turn_waits w Valve q e = lowest_waits (w Valve) (w Label) (w Stir) Valve q e
 turn_waits w Label q e = lowest_waits (w Valve) (w Label) (w Stir) Label q e
 turn_waits w Stir q e = lowest_waits (w Valve) (w Label) (w Stir) Stir q e
 
 -- a valve's request that is accepted waits, at a put it goes on waiting, and a turn is then its own
-seat_valve : (x : Party) (c : Call) (n : ℕ) (w : Waiting) → is_some (w Valve) ≡ true → is_some (kept (seat x c n w) w Valve) ≡ true
-seat_valve x c n w h = go (is_back c && not (has_back x)) (is_some (w x))
+seat_valve : (x : Party) (o : Request Call) (w : Waiting) → is_some (w Valve) ≡ true → is_some (kept (seat x o w) w Valve) ≡ true
+seat_valve x o w h = go (is_back o.call && not (has_back x)) (is_some (w x))
   where
-    here : (s : Bool) → is_some (cond s (Some (record { call = c; n = n })) (w Valve)) ≡ true
+    here : (s : Bool) → is_some (cond s (Some o) (w Valve)) ≡ true
     here true = refl
     here false = h
 
-    go : (b d : Bool) → is_some (kept (cond b (Err 23) (cond d (Err 24) (Ok (placed x (Some (record { call = c; n = n })) w)))) w Valve) ≡ true
+    go : (b d : Bool) → is_some (kept (cond b (Err 23) (cond d (Err 24) (Ok (placed x (Some o) w)))) w Valve) ≡ true
     go true d = h
     go false true = h
     go false false = here (same Valve x)
@@ -99,10 +99,10 @@ seat_valve x c n w h = go (is_back c && not (has_back x)) (is_some (w x))
 pub admit_valve : (p c n : ℕ) (w : Waiting) → is_some (w Valve) ≡ true → is_some (kept (admit p c n w) w Valve) ≡ true
 admit_valve p c n w h = go (party_of p) (call_of c)
   where
-    go : (o : Option Party) (m : Option Call) → is_some (kept (elim o [ None ↦ Err 21 | Some x ↦ elim m [ None ↦ Err 22 | Some y ↦ seat x y n w ] ]) w Valve) ≡ true
+    go : (o : Option Party) (m : Option Call) → is_some (kept (admit_read o m n w) w Valve) ≡ true
     go None m = h
     go (Some x) None = h
-    go (Some x) (Some y) = seat_valve x y n w h
+    go (Some x) (Some y) = seat_valve x (record { call = y; n = n }) w h
 
 err_ok : {X : Type 0} (a b : ℕ) → Err a ≡ Ok b → X
 err_ok a b e = absurd (let z : ◌≡◌ {A = ℕ} 0 1 = cc in omega arith)
@@ -116,10 +116,10 @@ accepted_valve c n w = go (call_of c)
     free y false true e = err_ok 24 1 e
     free y false false e = refl
 
-    go : (m : Option Call) → verdict 1 (elim m [ None ↦ Err 22 | Some y ↦ seat Valve y n w ]) ≡ Ok 1 → is_some (kept (elim m [ None ↦ Err 22 | Some y ↦ seat Valve y n w ]) w Valve) ≡ true
+    go : (m : Option Call) → verdict 1 (admit_read (Some Valve) m n w) ≡ Ok 1 → is_some (kept (admit_read (Some Valve) m n w) w Valve) ≡ true
     go None e = err_ok 22 1 e
     go (Some y) e = free y (is_back y && not (has_back Valve)) (is_some (w Valve)) e
 
-pub turn_valve : (a b c : Option Request) → is_some a ≡ true → (is_some (asks_of Valve (lowest a b c)) ≡ true) × ((w : Party → ℕ) → load w (lowest a b c) ≡ w Valve)
+pub turn_valve : (a b c : Option (Request Call)) → is_some a ≡ true → (is_some (asks_of Valve (lowest a b c)) ≡ true) × ((w : Party → ℕ) → load w (lowest a b c) ≡ w Valve)
 turn_valve None b c e = false_true e
 turn_valve (Some x) b c e = (refl, λ w. refl)

@@ -1,5 +1,5 @@
 -- What a call of a pile answers and leaves, by the cursors' own definitions, and the frame that shows the answer.
-use Rattle.std.specs.Prelude.{ℕ, ◌+◌, ◌-◌, cond, List, [], ◌∷◌, Some, None}
+use Rattle.std.specs.Prelude.{ℕ, ◌+◌, ◌-◌, if◌then◌else◌, List, [], ◌∷◌, Some, None}
 use Rattle.cursor.specs.Rows.{Row, after, first, taken, size, back}
 use Rattle.frame.specs.Bytes.{be8}
 use Rattle.frame.specs.declared.framed.Framed as Framed
@@ -19,7 +19,7 @@ answer_of NextBack n r = Item (back r 0)
 answer_of NthBack n r = Item (back r n)
 answer_of AdvanceBack n r = Advanced (n - size r)
 
-abbrev pub answer : {A : Type 0} → Request → Row A → Answer A
+abbrev pub answer : {A : Type 0} → Request Call → Row A → Answer A
 answer q r = answer_of q.call q.n r
 
 -- how many places a call takes, as far as there are so many
@@ -31,12 +31,12 @@ reach_of NextBack n = 1
 reach_of NthBack n = n + 1
 reach_of AdvanceBack n = n
 
-abbrev pub reach : Request → ℕ
+abbrev pub reach : Request Call → ℕ
 reach q = reach_of q.call q.n
 
 -- the row that a call leaves
-abbrev pub leaves : {A : Type 0} → Request → Row A → Row A
-leaves q r = cond (is_back q.call) (first (size r - reach q) r) (after (reach q) r)
+abbrev pub leaves : {A : Type 0} → Request Call → Row A → Row A
+leaves q r = if is_back q.call then first (size r - reach q) r else after (reach q) r
 
 -- the frame of an item, of none and of an advance, with the line byte d
 abbrev pub frame : {A : Type 0} → Framed.Ghosts A → ℕ → Answer A → List ℕ

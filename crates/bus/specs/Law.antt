@@ -5,6 +5,7 @@ use Rattle.frame.specs.declared.framed.Framed as Framed
 use Rattle.bus.specs.declared.fault.Fault.{Fault}
 use Rattle.bus.specs.declared.party.Party.{Party}
 use Rattle.bus.specs.declared.party.Party.TheVariants.{Valve, Label, Stir}
+use Rattle.bus.specs.declared.request.Call.{Call}
 use Rattle.bus.specs.declared.request.Request.{Request}
 use Rattle.bus.specs.Numbers.{number, fault_number}
 use Rattle.bus.specs.Waiting.{Served, told, asks_of}
@@ -61,11 +62,11 @@ abbrev pub item_shown : {A : Type 0} → Framed.Ghosts A → ℕ → A → Heard
 item_shown g d x = shown (g.KIND ∷ (d ∷ g.body x))
 
 -- a call hands out the item x: it hands out a place of the first row at which x stands
-abbrev pub Handed : {A : Type 0} → Option Request → Row A → Places → A → Type 0
+abbrev pub Handed : {A : Type 0} → Option (Request Call) → Row A → Places → A → Type 0
 Handed o r p x = (i : ℕ) × (hands o r p i ≡ true) × (r i ≡ Some x)
 
 -- what is heard shows an item exactly where the call hands it out
-abbrev pub ShowsJust : {A : Type 0} → Framed.Ghosts A → ℕ → Option Request → Row A → Places → Heard → Type 0
+abbrev pub ShowsJust : {A : Type 0} → Framed.Ghosts A → ℕ → Option (Request Call) → Row A → Places → Heard → Type 0
 ShowsJust {A} g d o r p h = (x : A) → (Handed o r p x → h ≡ item_shown g d x) × (h ≡ item_shown g d x → Handed o r p x)
 
 -- so it is of each call and each party

@@ -1,5 +1,5 @@
 -- Parties, calls and refusals by their numbers.
-use Rattle.std.specs.Prelude.{ℕ, Bool, true, false, cond, Some, None, Option, ◌==◌}
+use Rattle.std.specs.Prelude.{ℕ, Bool, true, false, if◌then◌else◌, Some, None, Option, ◌==◌}
 use Rattle.bus.specs.declared.party.Party.{Party}
 use Rattle.bus.specs.declared.party.Party.TheVariants.{Valve, Label, Stir}
 use Rattle.bus.specs.declared.request.Call.{Call}
@@ -18,7 +18,7 @@ abbrev pub same : Party → Party → Bool
 same p q = number p == number q
 
 abbrev pub party_of : ℕ → Option Party
-party_of b = cond (b == number Valve) (Some Valve) (cond (b == number Label) (Some Label) (cond (b == number Stir) (Some Stir) None))
+party_of b = if b == number Valve then Some Valve else if b == number Label then Some Label else if b == number Stir then Some Stir else None
 
 -- whether the party's pile has two ends
 abbrev pub has_back : Party → Bool
@@ -36,8 +36,13 @@ call_number AdvanceBack = 6
 
 abbrev pub call_of : ℕ → Option Call
 call_of b =
-    cond (b == call_number Next) (Some Next) (cond (b == call_number Nth) (Some Nth) (cond (b == call_number Advance) (Some Advance)
-    (cond (b == call_number NextBack) (Some NextBack) (cond (b == call_number NthBack) (Some NthBack) (cond (b == call_number AdvanceBack) (Some AdvanceBack) None)))))
+    if b == call_number Next then Some Next
+    else if b == call_number Nth then Some Nth
+    else if b == call_number Advance then Some Advance
+    else if b == call_number NextBack then Some NextBack
+    else if b == call_number NthBack then Some NthBack
+    else if b == call_number AdvanceBack then Some AdvanceBack
+    else None
 
 -- whether a call works from the back
 abbrev pub is_back : Call → Bool

@@ -1,5 +1,5 @@
 -- The plain run: what puts and exchanges answer, by the first rows alone and with no pile.
-use Rattle.std.specs.Prelude.{ℕ, ◌+◌, ◌-◌, Bool, true, false, cond, not, ◌&&◌, List, [], ◌∷◌, length, is_some, Some, None, Ok, Err, Option, Result, ◌==◌, nat_le, nat_lt}
+use Rattle.std.specs.Prelude.{ℕ, ◌+◌, ◌-◌, Bool, true, false, if◌then◌else◌, not, ◌&&◌, List, [], ◌∷◌, length, is_some, Some, None, Ok, Err, Option, Result, ◌==◌, nat_le, nat_lt}
 use Rattle.cursor.specs.Rows.{Row}
 use Rattle.bus.specs.declared.party.Party.{Party}
 use Rattle.bus.specs.declared.request.Call.{Call}
@@ -39,19 +39,19 @@ to_come r p i = nat_le p.front i && is_some (r (i + p.back))
 
 -- the items at the places still to come, in order
 abbrev pub coming : {A : Type 0} → Row A → Places → Row A
-coming r p = λ i. cond (is_some (r ((p.front + i) + p.back))) (r (p.front + i)) None
+coming r p = λ i. if is_some (r ((p.front + i) + p.back)) then r (p.front + i) else None
 
 -- the places that a call leaves
-abbrev pub less : Option Request → Places → Places
+abbrev pub less : Option (Request Call) → Places → Places
 less None p = p
-less (Some q) p = cond (is_back q.call) (record { front = p.front; back = p.back + reach q }) (record { front = p.front + reach q; back = p.back })
+less (Some q) p = if is_back q.call then record { front = p.front; back = p.back + reach q } else record { front = p.front + reach q; back = p.back }
 
 pub data End : Type 0 where
   at_front : End
   at_back : End
 
 -- a call takes place i at an end: it is among the first, or the last, so many places still to come
-abbrev pub takes : {A : Type 0} → End → Option Request → Row A → Places → ℕ → Bool
+abbrev pub takes : {A : Type 0} → End → Option (Request Call) → Row A → Places → ℕ → Bool
 takes e None r p i = false
 takes at_front (Some q) r p i = not (is_back q.call) && (to_come r p i && nat_lt i (p.front + reach q))
 takes at_back (Some q) r p i = is_back q.call && (to_come r p i && not (is_some (r (i + (p.back + reach q)))))
@@ -65,11 +65,11 @@ hands_out NthBack = true
 hands_out AdvanceBack = false
 
 -- a call hands out place i: it is no advance, and of the places that it takes this is the last, as many as it asked for
-abbrev pub hands : {A : Type 0} → Option Request → Row A → Places → ℕ → Bool
+abbrev pub hands : {A : Type 0} → Option (Request Call) → Row A → Places → ℕ → Bool
 hands None r p i = false
-hands (Some q) r p i = hands_out q.call && cond (is_back q.call)
-    (takes at_back (Some q) r p i && is_some (r (i + (p.back + (reach q - 1)))))
-    (takes at_front (Some q) r p i && i + 1 == p.front + reach q)
+hands (Some q) r p i = hands_out q.call && (if is_back q.call
+    then takes at_back (Some q) r p i && is_some (r (i + (p.back + (reach q - 1))))
+    else takes at_front (Some q) r p i && i + 1 == p.front + reach q)
 
 pub record Plain : Type 0 where
   pub waits : Waiting
@@ -78,7 +78,7 @@ pub record Plain : Type 0 where
 -- whom a call serves
 abbrev pub serves : Asked → Plain → Option Served
 serves (put p c n) q = None
-serves (exchange room) q = cond (nat_lt room 10) None (turn q.waits)
+serves (exchange room) q = if nat_lt room 10 then None else turn q.waits
 
 abbrev pub served : Option Served → Plain → Plain
 served u q = record { waits = freed u q.waits; places = λ p. less (asks_of p u) (q.places p) }
@@ -96,7 +96,7 @@ module _ {I : Party → Type 0} (k : Kinds I) (f : Rows I) where
   -- what the plain run answers: an exchange's call works on the items at the places still to come
   abbrev pub reply : Asked → Plain → Heard
   reply (put p c n) q = said (verdict p (admit p c n q.waits))
-  reply (exchange room) q = cond (nat_lt room 10) (refused 25) (shown (framed k (turn q.waits) (λ p. coming (f p) (q.places p))))
+  reply (exchange room) q = if nat_lt room 10 then refused 25 else shown (framed k (turn q.waits) (λ p. coming (f p) (q.places p)))
 
   abbrev pub replies : List Asked → List Heard
   replies [] = []

@@ -9,6 +9,7 @@ use Rattle.bus.specs.declared.fault.Fault.{Fault}
 use Rattle.bus.specs.declared.fault.Fault.TheVariants.{Short}
 use Rattle.bus.specs.declared.party.Party.{Party}
 use Rattle.bus.specs.declared.party.Party.TheVariants.{Valve, Label, Stir}
+use Rattle.bus.specs.declared.request.Call.{Call}
 use Rattle.bus.specs.declared.request.Request.{Request}
 use Rattle.bus.specs.Numbers.{number, has_back}
 use Rattle.bus.specs.Waiting.{Waiting, Served, nobody, waiting, admit, kept, told, verdict, turn, freed, asks_of}
@@ -42,12 +43,12 @@ framed k None r = 0x22 ∷ []
 framed k (Some u) r = Frames.frame (k.framing u.party) (number u.party) (answer u.request (r u.party))
 
 -- a pile of weight w before and after a call of it
-pub record Called {A : Type 0} (w : ℕ) (q : Request) (s t : Pile A) : Type 0 where
+pub record Called {A : Type 0} (w : ℕ) (q : Request Call) (s t : Pile A) : Type 0 where
   pub rest : t.row ≡ leaves q s.row
   pub more : s.tally ≤ t.tally
   pub few : t.tally ≤ s.tally + w
 
-abbrev pub CalledIf : {A : Type 0} → ℕ → Option Request → Pile A → Pile A → Type 0
+abbrev pub CalledIf : {A : Type 0} → ℕ → Option (Request Call) → Pile A → Pile A → Type 0
 CalledIf w None s t = t ≡ s
 CalledIf w (Some q) s t = Called w q s t
 

@@ -6,13 +6,14 @@ ghost use Rattle.bus.specs.Waiting.{widened};
 ghost use Rattle.bus.specs.Frames.{answer, frame};
 ghost use Rattle.bus.specs.State.{Called, pile_of};
 
-use crate::kinds::{ADVANCE, NONE};
+use crate::kinds::Kind;
 use crate::line::{Held, Line};
 use crate::party::Party;
-use crate::request::{Call, FrontCall, FrontRequest, Request};
+use crate::request::{Call, FrontCall, Request};
 use cursor::shortfall::making::lacking;
 use cursor::{Cursor, TwoEnded};
 use frame::framed::Framed;
+use std::mem;
 
 pub(crate) enum Answer<T> {
     // an item, or none
@@ -22,7 +23,7 @@ pub(crate) enum Answer<T> {
 }
 
 // Makes one call of a pile that has two ends.
-pub(crate) fn ask<C: TwoEnded>(pile: &mut C, request: Request) -> Answer<C::Item>
+pub(crate) fn ask<C: TwoEnded>(pile: &mut C, request: Request<Call>) -> Answer<C::Item>
     ensures value { result ≡ answer request (C.Cursor.row pile.old) }
     ensures called { Called C.Cursor.weight request (pile_of C.Cursor pile.old) (pile_of C.Cursor pile.new) }
 {
@@ -37,7 +38,7 @@ pub(crate) fn ask<C: TwoEnded>(pile: &mut C, request: Request) -> Answer<C::Item
 }
 
 // Makes one call of a pile that has a front alone.
-pub(crate) fn ask_front<C: Cursor>(pile: &mut C, request: FrontRequest) -> Answer<C::Item>
+pub(crate) fn ask_front<C: Cursor>(pile: &mut C, request: Request<FrontCall>) -> Answer<C::Item>
     ensures value { result ≡ answer (widened request) (C.Cursor.row pile.old) }
     ensures called { Called C.Cursor.weight (widened request) (pile_of C.Cursor pile.old) (pile_of C.Cursor pile.new) }
 {
@@ -63,11 +64,11 @@ impl<T: Framed> Answer<T> {
                 2 + T::BODY
             }
             Answer::Item(None) => {
-                out[0] = NONE;
+                out[0] = Kind::Nothing as u8;
                 2
             }
             Answer::Advanced(short) => {
-                out[0] = ADVANCE;
+                out[0] = Kind::Advance as u8;
                 short.write(&mut out[2..]);
                 2 + u64::BODY
             }
@@ -81,9 +82,8 @@ impl<T: Framed> Answer<T> {
         ensures bytes { out.new ≡ over (frame T.Framed (number party) self) out.old }
         ensures count { result ≡ length (frame T.Framed (number party) self) }
     {
-        let former = line.on;
-        line.on = party;
+        let former = mem::replace(&mut line.on, party);
         let held = Held { line, former };
-        self.write(held.device().number(), out)
+        self.write(held.device().into(), out)
     }
 }

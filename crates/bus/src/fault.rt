@@ -1,32 +1,27 @@
 // Why the bus refuses.
-ghost use Rattle.std.specs.Prelude.{◌≡◌};
 ghost use Rattle.bus.specs.Numbers.{fault_number};
+
+use refusal::Refusal;
 
 // Each leaves the bus, the line and the buffer as they were.
 #[derive(Clone, Copy, Debug, PartialEq, Eq)]
 pub enum Fault {
     // the party is not 1 to 3
-    UnknownParty,
+    UnknownParty = 21,
     // the call is not 1 to 6
-    UnknownCall,
+    UnknownCall = 22,
     // the stirrer asks from the back, which its row does not have
-    NoBack,
+    NoBack = 23,
     // the party's waiting place is taken
-    Taken,
+    Taken = 24,
     // the buffer has fewer than 10 bytes
-    Short,
+    Short = 25,
 }
 
-impl Fault {
-    pub fn number(self) -> u8
-        ensures { result ≡ fault_number self }
-    {
-        match self {
-            Fault::UnknownParty => 21,
-            Fault::UnknownCall => 22,
-            Fault::NoBack => 23,
-            Fault::Taken => 24,
-            Fault::Short => 25,
-        }
+impl Refusal for Fault {
+    ghost number = { fault_number };
+
+    fn number(self) -> u8 {
+        self as u8
     }
 }

@@ -28,10 +28,10 @@ use answer::{ask, ask_front};
 use cursor::{Cursor, TwoEnded};
 use fault::Fault;
 use frame::framed::Framed;
-use kinds::IDLE;
+use kinds::Kind;
 use line::Line;
 use party::Party;
-use request::Call;
+use request::{Call, Request};
 use waits::{Turn, Waits};
 
 // The least room for a frame: the longest has so many bytes.
@@ -59,13 +59,8 @@ where
         // That a two-ended row ends is what `len` promises; asking is no touch.
         let _ = valve.len();
         let _ = label.len();
-        let waits = Waits {
-            valve: None,
-            label: None,
-            stir: None,
-        };
         Bus {
-            waits,
+            waits: Waits::default(),
             valve,
             label,
             stir,
@@ -102,13 +97,9 @@ where
     fn place(&mut self, party: u8, call: u8, n: u64) -> Result<Party, Fault>
         ensures { PutSays V.Cursor L.Cursor S.Cursor V.Item.Framed L.Item.Framed S.Item.Framed self.old party call n result self.new }
     {
-        let Some(party) = Party::of(party) else {
-            return Err(Fault::UnknownParty);
-        };
-        let Some(call) = Call::of(call) else {
-            return Err(Fault::UnknownCall);
-        };
-        self.waits.seat(party, call, n)
+        let party = Party::try_from(party)?;
+        let call = Call::try_from(call)?;
+        self.waits.seat(party, Request { call, n })
     }
 
     // The code of `exchange`, likewise.
@@ -120,7 +111,7 @@ where
             return Err(Fault::Short);
         }
         let Some(turn) = self.waits.next() else {
-            out[0] = IDLE;
+            out[0] = Kind::Idle as u8;
             return Ok(1);
         };
         match turn {

@@ -1,9 +1,12 @@
 // What a party may ask of its pile.
-ghost use Rattle.std.specs.Prelude.{◌≡◌};
+ghost use Rattle.std.specs.Prelude.{◌≡◌, ok_or};
+ghost use Rattle.bus.specs.declared.fault.Fault.TheVariants.{UnknownCall, NoBack};
 ghost use Rattle.bus.specs.Numbers.{call_of, front_of};
 
+use crate::fault::Fault;
+
 // The calls of a two-ended cursor.
-#[derive(Clone, Copy)]
+#[derive(Clone, Copy, Debug, PartialEq, Eq)]
 pub enum Call {
     Next,
     Nth,
@@ -21,44 +24,43 @@ pub(crate) enum FrontCall {
     Advance,
 }
 
-// A call with its count, which next and next_back ignore.
-#[derive(Clone, Copy)]
-pub struct Request {
-    pub call: Call,
+// A call of a pile, of either kind, with its count, which next and next_back ignore.
+#[derive(Clone, Copy, Debug, PartialEq, Eq)]
+pub struct Request<C> {
+    pub call: C,
     pub n: u64,
 }
 
-#[derive(Clone, Copy)]
-pub(crate) struct FrontRequest {
-    pub(crate) call: FrontCall,
-    pub(crate) n: u64,
-}
+impl TryFrom<u8> for Call {
+    type Error = Fault;
 
-impl Call {
-    // The call of a number, if there is one.
-    pub fn of(number: u8) -> Option<Call>
-        ensures { result ≡ call_of number }
-    {
+    ghost try_from_gives = { λ n r. r ≡ ok_or (call_of n) UnknownCall };
+
+    fn try_from(number: u8) -> Result<Call, Fault> {
         match number {
-            1 => Some(Call::Next),
-            2 => Some(Call::Nth),
-            3 => Some(Call::Advance),
-            4 => Some(Call::NextBack),
-            5 => Some(Call::NthBack),
-            6 => Some(Call::AdvanceBack),
-            _ => None,
+            1 => Ok(Call::Next),
+            2 => Ok(Call::Nth),
+            3 => Ok(Call::Advance),
+            4 => Ok(Call::NextBack),
+            5 => Ok(Call::NthBack),
+            6 => Ok(Call::AdvanceBack),
+            _ => Err(Fault::UnknownCall),
         }
     }
+}
 
-    // The same call of a front cursor, if that has it.
-    pub(crate) fn front(self) -> Option<FrontCall>
-        ensures { result ≡ front_of self }
-    {
-        match self {
-            Call::Next => Some(FrontCall::Next),
-            Call::Nth => Some(FrontCall::Nth),
-            Call::Advance => Some(FrontCall::Advance),
-            Call::NextBack | Call::NthBack | Call::AdvanceBack => None,
+// The same call of a front cursor, if that has it.
+impl TryFrom<Call> for FrontCall {
+    type Error = Fault;
+
+    ghost try_from_gives = { λ call r. r ≡ ok_or (front_of call) NoBack };
+
+    fn try_from(call: Call) -> Result<FrontCall, Fault> {
+        match call {
+            Call::Next => Ok(FrontCall::Next),
+            Call::Nth => Ok(FrontCall::Nth),
+            Call::Advance => Ok(FrontCall::Advance),
+            Call::NextBack | Call::NthBack | Call::AdvanceBack => Err(Fault::NoBack),
         }
     }
 }

@@ -9,10 +9,9 @@ use cursor::{Cursor, TwoEnded};
 use frame::framed::Framed;
 
 // One call of a bus.
-#[derive(Clone, Copy)]
+#[derive(Clone, Copy, Debug, PartialEq, Eq)]
 pub enum Step {
-    // party, call and n
-    Put(u8, u8, u64),
+    Put { party: u8, call: u8, n: u64 },
     Exchange,
 }
 
@@ -31,7 +30,7 @@ where
     ensures done { StepSays V.Cursor L.Cursor S.Cursor V.Item.Framed L.Item.Framed S.Item.Framed bus.old out.old step bus.new out.new }
 {
     match step {
-        Step::Put(party, call, n) => {
+        Step::Put { party, call, n } => {
             let _ = bus.put(party, call, n);
         }
         Step::Exchange => {

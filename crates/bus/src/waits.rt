@@ -1,52 +1,48 @@
 // The waiting places, one for each party.
 ghost use Rattle.std.specs.Prelude.{◌≡◌};
-ghost use Rattle.bus.specs.Waiting.{Seated, waiting, turn, turn_of, freed};
+ghost use Rattle.bus.specs.Waiting.{Reserved, Seated, waiting, turn, turn_of, freed};
 
 use crate::fault::Fault;
 use crate::party::Party;
-use crate::request::{Call, FrontRequest, Request};
+use crate::request::{Call, FrontCall, Request};
 
-#[derive(Clone, Copy)]
+#[derive(Clone, Copy, Default)]
 pub(crate) struct Waits {
-    pub(crate) valve: Option<Request>,
-    pub(crate) label: Option<Request>,
-    pub(crate) stir: Option<FrontRequest>,
+    valve: Option<Request<Call>>,
+    label: Option<Request<Call>>,
+    stir: Option<Request<FrontCall>>,
 }
 
 // A request whose turn it is.
 #[derive(Clone, Copy)]
 pub(crate) enum Turn {
-    Valve(Request),
-    Label(Request),
-    Stir(FrontRequest),
+    Valve(Request<Call>),
+    Label(Request<Call>),
+    Stir(Request<FrontCall>),
+}
+
+// Puts a request into a place, unless one waits there.
+fn reserve<C: Copy>(place: &mut Option<Request<C>>, request: Request<C>) -> Result<(), Fault>
+    ensures { Reserved request place.old result place.new }
+{
+    if place.is_some() {
+        return Err(Fault::Taken);
+    }
+    *place = Some(request);
+    Ok(())
 }
 
 impl Waits {
     // Puts a request into its party's place, and answers the party.
-    pub(crate) fn seat(&mut self, party: Party, call: Call, n: u64) -> Result<Party, Fault>
-        ensures { Seated party call n self.old result self.new }
+    pub(crate) fn seat(&mut self, party: Party, request: Request<Call>) -> Result<Party, Fault>
+        ensures { Seated party request self.old result self.new }
     {
         match party {
-            Party::Valve => {
-                if self.valve.is_some() {
-                    return Err(Fault::Taken);
-                }
-                self.valve = Some(Request { call, n });
-            }
-            Party::Label => {
-                if self.label.is_some() {
-                    return Err(Fault::Taken);
-                }
-                self.label = Some(Request { call, n });
-            }
+            Party::Valve => reserve(&mut self.valve, request)?,
+            Party::Label => reserve(&mut self.label, request)?,
             Party::Stir => {
-                let Some(call) = call.front() else {
-                    return Err(Fault::NoBack);
-                };
-                if self.stir.is_some() {
-                    return Err(Fault::Taken);
-                }
-                self.stir = Some(FrontRequest { call, n });
+                let call = request.call.try_into()?;
+                reserve(&mut self.stir, Request { call, n: request.n })?;
             }
         }
         Ok(party)
@@ -63,9 +59,7 @@ impl Waits {
         if let Some(request) = self.label.take() {
             return Some(Turn::Label(request));
         }
-        match self.stir.take() {
-            Some(request) => Some(Turn::Stir(request)),
-            None => None,
-        }
+        let request = self.stir.take()?;
+        Some(Turn::Stir(request))
     }
 }

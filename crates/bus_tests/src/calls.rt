@@ -1,7 +1,7 @@
 // Calls of a bus with what they must answer and leave.
 use bus::Bus;
 use bus::line::Line;
-use bus::receipt::Receipt;
+use bus::receipt::write_receipt;
 use cursor::{Cursor, TwoEnded};
 use frame::framed::Framed;
 use std::process::Abort;
@@ -33,7 +33,7 @@ where
     let mut out = [FILL; 12];
     let (answer, bytes, touches) = match call {
         Call::Put(party, call, n, receipt) => (
-            Receipt::of(bus.put(party, call, n)).write(&mut out),
+            write_receipt(bus.put(party, call, n), &mut out),
             receipt,
             0,
         ),
@@ -41,11 +41,7 @@ where
     };
     assert!(rt; answer == Ok(bytes.len()));
     assert!(rt; out.starts_with(bytes));
-    for (i, byte) in out.iter().enumerate() {
-        if i >= bytes.len() {
-            assert_eq!(rt; *byte, FILL);
-        }
-    }
+    assert!(rt; out.iter().skip(bytes.len()).all(|&byte| byte == FILL));
     assert_eq!(rt; line.device(), device);
     assert_eq!(rt; bus.tally().saturating_sub(tally), touches);
 }

@@ -5,11 +5,12 @@ use bus::Bus;
 use bus::fault::Fault;
 use bus::line::Line;
 use bus::party::Party;
-use bus::receipt::Receipt;
+use bus::receipt::write_receipt;
 use cursor::Cursor;
 use cursor::count::CountLeaf;
 use cursor::slice::SliceLeaf;
 use frame::framed::Framed;
+use refusal::Refusal;
 
 // Each of put's refusals, in the order of its checks; what waits is served as if they had not been.
 #[test]
@@ -75,11 +76,12 @@ fn ten_bytes(rt: HostRuntime) {
 // A receipt needs the same room, and says the numbers of other refusals too.
 #[test]
 fn receipts(rt: HostRuntime) {
+    let refused: Result<Party, u8> = Err(12);
     let mut nine = [7u8; 9];
-    assert!(rt; Receipt::Refused(12).write(&mut nine) == Err(Fault::Short));
+    assert!(rt; write_receipt(refused, &mut nine) == Err(Fault::Short));
     assert!(rt; nine == [7; 9]);
     let mut ten = [7u8; 10];
-    assert!(rt; Receipt::Refused(12).write(&mut ten) == Ok(2));
+    assert!(rt; write_receipt(refused, &mut ten) == Ok(2));
     assert!(rt; ten == [0x21, 12, 7, 7, 7, 7, 7, 7, 7, 7]);
     assert_eq!(rt; Fault::Short.number(), 25);
 }

@@ -94,11 +94,27 @@ fn lowest_party(rt: HostRuntime) {
 #[test]
 fn whole_script(rt: HostRuntime) {
     let steps = [
-        Step::Put(2, 1, 0),
-        Step::Put(1, 3, 1),
+        Step::Put {
+            party: 2,
+            call: 1,
+            n: 0,
+        },
+        Step::Put {
+            party: 1,
+            call: 3,
+            n: 1,
+        },
         Step::Exchange,
-        Step::Put(1, 1, 0),
-        Step::Put(7, 7, 7),
+        Step::Put {
+            party: 1,
+            call: 1,
+            n: 0,
+        },
+        Step::Put {
+            party: 7,
+            call: 7,
+            n: 7,
+        },
         Step::Exchange,
         Step::Exchange,
     ];
