@@ -1,5 +1,5 @@
 -- Which items the frames show.
-use Rattle.std.proofs.Common.{◌≡◌, ℕ, ◌+◌, ◌-◌, true, not, ◌&&◌, eqb, ltb, List, [], ◌∷◌, is_some, Some, None, Ok, Err, Option, Result, refl, ap, arith}
+use Rattle.std.proofs.Common.{◌≡◌, ℕ, ◌+◌, ◌-◌, true, not, ◌&&◌, eqb, ltb, [], ◌∷◌, is_some, Some, None, Ok, Err, Result, refl, ap, arith}
 use Rattle.std.proofs.lemmas.Bool.Decides.{nat_tests}
 use Rattle.cursor.specs.Rows.{Row, Length, back, back_at, size}
 use Rattle.cursor.proofs.Laws.{size_fits}
@@ -46,27 +46,21 @@ request c n = record { call = c; n = n }
 
 -- a call's answer is an item exactly where it hands out a place that holds it
 module _ {A : Type 0} (r : Row A) (p : Places) (x : A) where
-  item_is : (o : Option A) → Item o ≡ Item (Some x) → o ≡ Some x
-  item_is o e = cc
-
-  no_item : {X : Type 0} (s : ℕ) → Advanced s ≡ Item (Some x) → X
-  no_item s e = absurd (let z : ◌≡◌ {A = ℕ} 0 1 = cc in omega arith)
-
   call_hands : (c : Call) (n : ℕ) → (is_back c ≡ true → Length r (size r)) → answer_of c n (coming r p) ≡ Item (Some x) → Handed (Some (request c n)) r p x
-  call_hands Next n h e = front_hands r p x 0 1 (omega arith) (item_is _ e)
-  call_hands Nth n h e = front_hands r p x n (n + 1) refl (item_is _ e)
-  call_hands Advance n h e = no_item _ e
-  call_hands NextBack n h e = back_hands r p x 0 1 (omega arith) (h refl) (item_is _ e)
-  call_hands NthBack n h e = back_hands r p x n (n + 1) refl (h refl) (item_is _ e)
-  call_hands AdvanceBack n h e = no_item _ e
+  call_hands Next n h e = front_hands r p x 0 1 (omega arith) (cc)
+  call_hands Nth n h e = front_hands r p x n (n + 1) refl (cc)
+  call_hands Advance n h e = absurd (cc)
+  call_hands NextBack n h e = back_hands r p x 0 1 (omega arith) (h refl) (cc)
+  call_hands NthBack n h e = back_hands r p x n (n + 1) refl (h refl) (cc)
+  call_hands AdvanceBack n h e = absurd (cc)
 
   call_shows : (c : Call) (n : ℕ) → (is_back c ≡ true → Length r (size r)) → Handed (Some (request c n)) r p x → answer_of c n (coming r p) ≡ Item (Some x)
   call_shows Next n h (i, t, j) = ap Item (front_shows r p x 0 1 (omega arith) i t j)
   call_shows Nth n h (i, t, j) = ap Item (front_shows r p x n (n + 1) refl i t j)
-  call_shows Advance n h (i, t, j) = absurd (let z : ◌≡◌ {A = ℕ} 0 1 = cc in omega arith)
+  call_shows Advance n h (i, t, j) = absurd (cc)
   call_shows NextBack n h (i, t, j) = ap Item (back_shows r p x 0 1 (omega arith) (h refl) i t j)
   call_shows NthBack n h (i, t, j) = ap Item (back_shows r p x n (n + 1) refl (h refl) i t j)
-  call_shows AdvanceBack n h (i, t, j) = absurd (let z : ◌≡◌ {A = ℕ} 0 1 = cc in omega arith)
+  call_shows AdvanceBack n h (i, t, j) = absurd (cc)
 
 -- what each kind of item shows of its frames
 pub record Apt {A : Type 0} (g : Framed.Ghosts A) : Type 0 where
@@ -79,15 +73,12 @@ framed_item g t d (Item None) x e = absurd (t.free.none (cc))
 framed_item g t d (Item (Some y)) x e = ap (λ z. Item (Some z)) (t.told y x (cc))
 framed_item g t d (Advanced s) x e = absurd (t.free.advance (cc))
 
-frame_is : (a b : List ℕ) → shown a ≡ shown b → a ≡ b
-frame_is a b e = cc
-
 -- a call of the pile shows just what it hands out
 pub shows_call : {A : Type 0} (g : Framed.Ghosts A) → Apt g → (d : ℕ) (q : Request Call) (r : Row A) (p : Places) → (is_back q.call ≡ true → Length r (size r)) →
     ShowsJust g d (Some q) r p (shown (frame g d (answer q (coming r p))))
 shows_call g t d q r p h x = (
   λ a. ap (λ y. shown (frame g d y)) (call_shows r p x q.call q.n h a),
-  λ e. call_hands r p x q.call q.n h (framed_item g t d _ x (frame_is _ _ e)),
+  λ e. call_hands r p x q.call q.n h (framed_item g t d _ x (cc e)),
 )
 
 -- the line byte of what is heard; 0 where there is none
@@ -109,4 +100,4 @@ frame_line g d (Advanced s) = refl
 
 -- what has another line byte shows nothing
 pub shows_none : {A : Type 0} (g : Framed.Ghosts A) (d : ℕ) (r : Row A) (p : Places) (h : Heard) → (line_byte h ≡ d → ⊥) → ShowsJust g d None r p h
-shows_none g d r p h n x = (λ (i, t, j). absurd (let z : ◌≡◌ {A = ℕ} 0 1 = cc in omega arith), λ e. absurd (n (ap line_byte e)))
+shows_none g d r p h n x = (λ (i, t, j). absurd (cc), λ e. absurd (n (ap line_byte e)))

@@ -13,10 +13,10 @@ use Rattle.bus.specs.Numbers.{number, same, is_back}
 use Rattle.bus.specs.Waiting.{Served, told, turn, asks_of}
 use Rattle.bus.specs.Frames.{answer, frame}
 use Rattle.bus.specs.State.{State, Kinds, rows, framed, framings, PutDone, ExchangeDone, New}
-use Rattle.bus.specs.Plain.{Heard, refused, shown, coming, Plain, run}
-use Rattle.bus.specs.Law.{Event, asks, Past, born, did_put, did_exchange, ShowsJust, Shows, Lawful, Goes, Starts, put_event, exchange_event}
+use Rattle.bus.specs.Plain.{exchange, Heard, refused, shown, coming, Plain, run, reply}
+use Rattle.bus.specs.Law.{Event, asks, found, Past, born, did_put, did_exchange, ShowsJust, Shows, Lawful, Goes, Starts, put_event, exchange_event}
 use Rattle.bus.proofs.Items.{Apt, shows_call, shows_none, line_byte, said_line, frame_line}
-use Rattle.bus.proofs.Plain.{new_of, tied, heard_plain, taken_once, head_is}
+use Rattle.bus.proofs.Plain.{new_of, tied, heard_plain, taken_once}
 use Rattle.bus.proofs.Touches.{light, prompt}
 use Rattle.bus.proofs.Turns.{Sound, same_party, turn_waits}
 
@@ -71,7 +71,7 @@ module _ {I : Party → Type 0} (k : Kinds I) (f : State I) (apt : (p : Party) �
   shows (did_exchange {es} out r out' past d) =
       let q = run (asks es) in
       let b = ltb (length out) 10 in
-      let h = head_is _ _ _ _ (heard_plain k f (did_exchange out r out' past d)) in
+      let h : found r out' ≡ reply k (rows f) (exchange (length out)) q = cc (heard_plain k f (did_exchange out r out' past d)) in
       (subst (ShowsTurn q (cond b None (turn q.waits))) (sym h) (exchange_shown (new_of k f past) q (tied k f past).sound b), shows past)
 
   pub lawful : {es : List Event} {s : State I} → Past k f es s → Lawful k f es s

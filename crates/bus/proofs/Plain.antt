@@ -15,13 +15,7 @@ use Rattle.bus.specs.State.{State, Pile, Kinds, Rows, rows, framed, CalledIf, Ex
 use Rattle.bus.specs.Plain.{Asked, put, exchange, refused, answered, said, shown, Places, to_come, coming, less, at_front, at_back, Plain, serves, served, run, replies, times, takings}
 use Rattle.bus.specs.Law.{Event, asks, hears, found, Past, born, did_put, did_exchange}
 use Rattle.bus.proofs.Places.{coming_all, coming_leaves, takes_one}
-use Rattle.bus.proofs.Turns.{Sound, none_some, admit_sound, freed_sound, turn_waits}
-
-pub head_is : {A : Type 0} (x y : A) (l m : List A) → x ∷ l ≡ y ∷ m → x ≡ y
-head_is x y l m e = cc
-
-pub tail_is : {A : Type 0} (x y : A) (l m : List A) → x ∷ l ≡ y ∷ m → l ≡ m
-tail_is x y l m e = cc
+use Rattle.bus.proofs.Turns.{Sound, admit_sound, freed_sound, turn_waits}
 
 -- a pile's row after a call of it
 called_row : {A : Type 0} (r : Row A) (p : Places) (w : ℕ) (o : Option (Request Call)) (s t : Pile A) → CalledIf w o s t → s.row ≡ coming r p →
@@ -61,7 +55,7 @@ module _ {I : Party → Type 0} (k : Kinds I) (f : State I) where
   pub tied : {es : List Event} {s : State I} → Past k f es s → Tied (run (asks es)) s
   tied (born n) = record {
     waits = n.waits;
-    sound = λ p q e. none_some q e;
+    sound = λ p q e. absurd (cc);
     row = λ p. sym (coming_all (rows f p) (record { front = 0; back = 0 }) refl refl);
   }
   tied (did_put {es} {s} {t} p c n r past d) =

@@ -14,7 +14,7 @@ use Rattle.bus.specs.declared.request.Call.{Call}
 use Rattle.bus.specs.declared.request.Request.{Request}
 use Rattle.bus.specs.declared.waits.Waits.{Waits}
 use Rattle.bus.specs.Numbers.{number, party_of, has_back, call_of, fault_number}
-use Rattle.bus.specs.Waiting.{Served, widened_if, waiting, seat, admit_read, admit, kept, told, verdict, turn, freed, asks_of}
+use Rattle.bus.specs.Waiting.{Served, widened_if, waiting, seat, admit_read, kept, told, verdict, turn, freed, asks_of}
 use Rattle.bus.specs.State.{State, Kinds, rows, framed, Called, CalledIf, PutDone, ExchangeDone, New, pile_of, piles, meant, weights}
 
 -- a new bus: its rows are closed, and those of the valve and the label have an end, since `len` says so

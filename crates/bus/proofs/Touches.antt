@@ -9,8 +9,8 @@ use Rattle.bus.specs.Waiting.{Served, admit, verdict, turn, asks_of}
 use Rattle.bus.specs.State.{State, Pile, Kinds, Rows, CalledIf, ExchangeDone}
 use Rattle.bus.specs.Plain.{Asked, put, exchange, accepted, said, Plain, serves, served, step, run, reply, replies}
 use Rattle.bus.specs.Law.{Event, asks, hears, total, tallies, Past, born, did_put, did_exchange, load, Light, Unserved, Prompt}
-use Rattle.bus.proofs.Turns.{false_true, admit_valve, accepted_valve, turn_valve}
-use Rattle.bus.proofs.Plain.{tied, head_is, tail_is}
+use Rattle.bus.proofs.Turns.{admit_valve, accepted_valve, turn_valve}
+use Rattle.bus.proofs.Plain.{tied}
 
 -- between two states the tallies rise by at most n
 abbrev Rises : {I : Party → Type 0} → ℕ → State I → State I → Type 0
@@ -59,7 +59,7 @@ module _ (w : Party → ℕ) where
       go : (b : Bool) → t ≤ load w (cond b None (turn q.waits)) → is_some (asks_of Valve (cond b None (turn q.waits))) ≡ false →
           (is_some ((served (cond b None (turn q.waits)) q).waits Valve) ≡ true) × (t ≡ 0)
       go true l v = (h, omega arith)
-      go false l v = false_true (sym v ∙ (turn_valve (q.waits Valve) (q.waits Label) (q.waits Stir) h).0)
+      go false l v = absurd (let u = (turn_valve (q.waits Valve) (q.waits Label) (q.waits Stir) h).0 in cc)
 
   brief : (x : Asked) (q : Plain) (t : ℕ) → t ≤ load w (serves x q) → is_some (q.waits Valve) ≡ true → t ≤ w Valve
   brief (put p c n) q t l h = omega arith
@@ -71,7 +71,7 @@ module _ (w : Party → ℕ) where
 
 accepted_ok : (r : Result ℕ ℕ) (p : ℕ) → said r ≡ accepted p → r ≡ Ok p
 accepted_ok (Ok x) p e = ap Ok (cc)
-accepted_ok (Err x) p e = absurd (let z : ◌≡◌ {A = ℕ} 0 1 = cc in omega arith)
+accepted_ok (Err x) p e = absurd (cc)
 
 module _ {I : Party → Type 0} (k : Kinds I) (f : Rows I) where
   -- what is plain and light is so up to each earlier call
@@ -81,14 +81,15 @@ module _ {I : Party → Type 0} (k : Kinds I) (f : Rows I) where
 
   older_good : (newer es : List Event) → Good (newer ++ es) → Good es
   older_good [] es g = g
-  older_good (e ∷ newer) es g = older_good newer es (record { plain = tail_is _ _ _ _ g.plain; light = g.light.1 })
+  older_good (e ∷ newer) es g = older_good newer es (record { plain = cc g.plain; light = g.light.1 })
 
   waits_on : (between : List Event) (a : Event) (older : List Event) (c n : ℕ) → Good (between ++ (a ∷ older)) →
       a.asked ≡ put 1 c n → a.heard ≡ accepted 1 → Unserved between (a ∷ older) →
       (is_some ((run (asks (between ++ (a ∷ older)))).waits Valve) ≡ true) × (total between + a.touches ≡ 0)
   waits_on [] a older c n g e h u =
       let q = run (asks older) in
-      let s : verdict 1 (admit 1 c n q.waits) ≡ Ok 1 = accepted_ok _ 1 (sym (ap (λ x. reply k f x q) e) ∙ sym (head_is _ _ _ _ g.plain) ∙ h) in
+      let r : a.heard ≡ reply k f a.asked q = cc g.plain in
+      let s : verdict 1 (admit 1 c n q.waits) ≡ Ok 1 = accepted_ok _ 1 (sym (ap (λ x. reply k f x q) e) ∙ sym r ∙ h) in
       let t : a.touches ≤ 0 = subst (λ x. a.touches ≤ load k.weight (serves x q)) e g.light.0 in
       (ap (λ x. is_some ((step x q).waits Valve)) e ∙ accepted_valve c n q.waits s, omega arith)
   waits_on (b ∷ between) a older c n g e h u =

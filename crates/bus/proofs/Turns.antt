@@ -9,21 +9,15 @@ use Rattle.bus.specs.Numbers.{same, party_of, has_back, call_of, is_back}
 use Rattle.bus.specs.Law.{load}
 use Rattle.bus.specs.Waiting.{Waiting, Served, placed, seat, admit_read, admit, kept, verdict, lowest, turn, freed, asks_of}
 
-pub false_true : {X : Type 0} → false ≡ true → X
-false_true e = absurd (let z : ◌≡◌ {A = ℕ} 0 1 = cc in omega arith)
-
-pub none_some : {A X : Type 0} (x : A) → None ≡ Some x → X
-none_some x e = absurd (let z : ◌≡◌ {A = ℕ} 0 1 = cc in omega arith)
-
 pub same_party : (p q : Party) → same p q ≡ true → p ≡ q
 same_party Valve Valve e = refl
-same_party Valve Label e = false_true e
-same_party Valve Stir e = false_true e
-same_party Label Valve e = false_true e
+same_party Valve Label e = cc
+same_party Valve Stir e = cc
+same_party Label Valve e = cc
 same_party Label Label e = refl
-same_party Label Stir e = false_true e
-same_party Stir Valve e = false_true e
-same_party Stir Label e = false_true e
+same_party Label Stir e = cc
+same_party Stir Valve e = cc
+same_party Stir Label e = cc
 same_party Stir Stir e = refl
 
 -- a request that waits from the back waits for a pile that has one
@@ -58,7 +52,7 @@ admit_sound p c n w h = go (party_of p) (call_of c)
 
 pub freed_sound : (u : Option Served) (w : Waiting) → Sound w → Sound (freed u w)
 freed_sound None w h = h
-freed_sound (Some u) w h = placed_sound u.party None w h (λ q e. none_some q e)
+freed_sound (Some u) w h = placed_sound u.party None w h (λ q e. absurd (cc))
 
 -- whoever is served has waited
 abbrev three : Option (Request Call) → Option (Request Call) → Option (Request Call) → Party → Option (Request Call)
@@ -68,15 +62,15 @@ three a b c Stir = c
 
 lowest_waits : (a b c : Option (Request Call)) (p : Party) (q : Request Call) → asks_of p (lowest a b c) ≡ Some q → three a b c p ≡ Some q
 lowest_waits (Some x) b c Valve q e = e
-lowest_waits (Some x) b c Label q e = none_some q e
-lowest_waits (Some x) b c Stir q e = none_some q e
-lowest_waits None (Some x) c Valve q e = none_some q e
+lowest_waits (Some x) b c Label q e = cc
+lowest_waits (Some x) b c Stir q e = cc
+lowest_waits None (Some x) c Valve q e = cc
 lowest_waits None (Some x) c Label q e = e
-lowest_waits None (Some x) c Stir q e = none_some q e
-lowest_waits None None (Some x) Valve q e = none_some q e
-lowest_waits None None (Some x) Label q e = none_some q e
+lowest_waits None (Some x) c Stir q e = cc
+lowest_waits None None (Some x) Valve q e = cc
+lowest_waits None None (Some x) Label q e = cc
 lowest_waits None None (Some x) Stir q e = e
-lowest_waits None None None p q e = none_some q e
+lowest_waits None None None p q e = cc
 
 pub turn_waits : (w : Waiting) (p : Party) (q : Request Call) → asks_of p (turn w) ≡ Some q → w p ≡ Some q
 turn_waits w Valve q e = lowest_waits (w Valve) (w Label) (w Stir) Valve q e
@@ -104,22 +98,19 @@ admit_valve p c n w h = go (party_of p) (call_of c)
     go (Some x) None = h
     go (Some x) (Some y) = seat_valve x (record { call = y; n = n }) w h
 
-err_ok : {X : Type 0} (a b : ℕ) → Err a ≡ Ok b → X
-err_ok a b e = absurd (let z : ◌≡◌ {A = ℕ} 0 1 = cc in omega arith)
-
 pub accepted_valve : (c n : ℕ) (w : Waiting) → verdict 1 (admit 1 c n w) ≡ Ok 1 → is_some (kept (admit 1 c n w) w Valve) ≡ true
 accepted_valve c n w = go (call_of c)
   where
     free : (y : Call) (b d : Bool) → verdict 1 (cond b (Err 23) (cond d (Err 24) (Ok (placed Valve (Some (record { call = y; n = n })) w)))) ≡ Ok 1 →
         is_some (kept (cond b (Err 23) (cond d (Err 24) (Ok (placed Valve (Some (record { call = y; n = n })) w)))) w Valve) ≡ true
-    free y true d e = err_ok 23 1 e
-    free y false true e = err_ok 24 1 e
+    free y true d e = absurd (cc)
+    free y false true e = absurd (cc)
     free y false false e = refl
 
     go : (m : Option Call) → verdict 1 (admit_read (Some Valve) m n w) ≡ Ok 1 → is_some (kept (admit_read (Some Valve) m n w) w Valve) ≡ true
-    go None e = err_ok 22 1 e
+    go None e = absurd (cc)
     go (Some y) e = free y (is_back y && not (has_back Valve)) (is_some (w Valve)) e
 
 pub turn_valve : (a b c : Option (Request Call)) → is_some a ≡ true → (is_some (asks_of Valve (lowest a b c)) ≡ true) × ((w : Party → ℕ) → load w (lowest a b c) ≡ w Valve)
-turn_valve None b c e = false_true e
+turn_valve None b c e = absurd (cc)
 turn_valve (Some x) b c e = (refl, λ w. refl)
