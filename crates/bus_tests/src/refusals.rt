@@ -6,6 +6,7 @@ use bus::fault::Fault;
 use bus::line::Line;
 use bus::party::Party;
 use bus::receipt::write_receipt;
+use bus::request::Call;
 use cursor::Cursor;
 use cursor::count::CountLeaf;
 use cursor::slice::SliceLeaf;
@@ -84,4 +85,15 @@ fn receipts(rt: HostRuntime) {
     assert!(rt; write_receipt(refused, &mut ten) == Ok(2));
     assert!(rt; ten == [0x21, 12, 7, 7, 7, 7, 7, 7, 7, 7]);
     assert_eq!(rt; Fault::Short.number(), 25);
+}
+
+// Parties and calls by their numbers, and the first number past them.
+#[test]
+fn numbers(rt: HostRuntime) {
+    assert!(rt; Party::try_from(3) == Ok(Party::Stir));
+    assert!(rt; Party::try_from(4) == Err(Fault::UnknownParty));
+    assert_eq!(rt; u8::from(Party::Stir), 3);
+    assert!(rt; Call::try_from(6) == Ok(Call::AdvanceBack));
+    assert!(rt; Call::try_from(7) == Err(Fault::UnknownCall));
+    assert!(rt; Line::default() == Line::new());
 }
