@@ -45,12 +45,7 @@ pub struct Bus<V, L, S> {
     stir: S,
 }
 
-impl<V: TwoEnded, L: TwoEnded, S: Cursor> Bus<V, L, S>
-where
-    V::Item: Framed,
-    L::Item: Framed,
-    S::Item: Framed,
-{
+impl<V: TwoEnded<Item: Framed>, L: TwoEnded<Item: Framed>, S: Cursor<Item: Framed>> Bus<V, L, S> {
     // A bus of three piles, with nobody waiting.
     pub fn new(valve: V, label: L, stir: S) -> Bus<V, L, S>
         ensures made { result ≡ fresh valve label stir }

@@ -16,16 +16,12 @@ pub enum Step {
 }
 
 // Makes one call.
-fn make<V: TwoEnded, L: TwoEnded, S: Cursor>(
+fn make<V: TwoEnded<Item: Framed>, L: TwoEnded<Item: Framed>, S: Cursor<Item: Framed>>(
     bus: &mut Bus<V, L, S>,
     line: &mut Line,
     out: &mut [u8],
     step: Step,
 )
-where
-    V::Item: Framed,
-    L::Item: Framed,
-    S::Item: Framed,
     ensures line { line.new ≡ line.old }
     ensures done { StepSays V.Cursor L.Cursor S.Cursor V.Item.Framed L.Item.Framed S.Item.Framed bus.old out.old step bus.new out.new }
 {
@@ -41,7 +37,7 @@ where
 
 // Makes a new bus and all the calls; each exchange writes its frame to the same buffer, over the one before. Answers the bus as
 // it then is.
-pub fn run<V: TwoEnded, L: TwoEnded, S: Cursor>(
+pub fn run<V: TwoEnded<Item: Framed>, L: TwoEnded<Item: Framed>, S: Cursor<Item: Framed>>(
     valve: V,
     label: L,
     stir: S,
@@ -49,10 +45,6 @@ pub fn run<V: TwoEnded, L: TwoEnded, S: Cursor>(
     out: &mut [u8],
     steps: &[Step],
 ) -> Bus<V, L, S>
-where
-    V::Item: Framed,
-    L::Item: Framed,
-    S::Item: Framed,
     ensures line { line.new ≡ line.old }
     ensures law { RunSays V.Cursor L.Cursor S.Cursor V.Item.Framed L.Item.Framed S.Item.Framed (fresh valve label stir) out.old steps.now result out.new }
 {

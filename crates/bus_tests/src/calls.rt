@@ -17,17 +17,12 @@ pub(crate) enum Call {
 const FILL: u8 = 0xEE;
 
 // One call into a buffer of 12 bytes: its answer, the bytes it wrote and those it left, the line, and the touches.
-fn make<V: TwoEnded, L: TwoEnded, S: Cursor>(
+fn make<V: TwoEnded<Item: Framed>, L: TwoEnded<Item: Framed>, S: Cursor<Item: Framed>>(
     rt: &impl Abort,
     bus: &mut Bus<V, L, S>,
     line: &mut Line,
     call: Call,
-)
-where
-    V::Item: Framed,
-    L::Item: Framed,
-    S::Item: Framed,
-{
+) {
     let tally = bus.tally();
     let device = line.device();
     let mut out = [FILL; 12];
@@ -46,16 +41,11 @@ where
     assert_eq!(rt; bus.tally().saturating_sub(tally), touches);
 }
 
-pub(crate) fn make_all<V: TwoEnded, L: TwoEnded, S: Cursor>(
-    rt: &impl Abort,
-    bus: &mut Bus<V, L, S>,
-    calls: &[Call],
-)
-where
-    V::Item: Framed,
-    L::Item: Framed,
-    S::Item: Framed,
-{
+pub(crate) fn make_all<
+    V: TwoEnded<Item: Framed>,
+    L: TwoEnded<Item: Framed>,
+    S: Cursor<Item: Framed>,
+>(rt: &impl Abort, bus: &mut Bus<V, L, S>, calls: &[Call]) {
     let mut line = Line::new();
     for call in calls {
         make(rt, bus, &mut line, *call);
