@@ -12,6 +12,10 @@ use Rattle.bus.specs.Law.{Starts, Goes, put_event, exchange_event}
 abbrev pub fresh : {V L S : Type 0} → V → L → S → Bus V L S
 fresh v l s = record { waits = record { valve = None; label = None; stir = None }; valve = v; label = l; stir = s }
 
+module _ {V L S A B C : Type 0} (v : Cursor.Ghosts V A) (l : Cursor.Ghosts L B) (s : Cursor.Ghosts S C) where
+  abbrev pub PutSays : Bus V L S → ℕ → ℕ → ℕ → Result Party Fault → Bus V L S → Type 0
+  PutSays b p c n r d = PutDone (meant v l s b) p c n r (meant v l s d)
+
 module _ {V L S A B C : Type 0}
     (v : Cursor.Ghosts V A) (l : Cursor.Ghosts L B) (s : Cursor.Ghosts S C)
     (vf : Framed.Ghosts A) (lf : Framed.Ghosts B) (sf : Framed.Ghosts C) where
@@ -20,9 +24,6 @@ module _ {V L S A B C : Type 0}
 
   abbrev pub NewLaw : Bus V L S → Type 0
   NewLaw b = Starts kinds (meant v l s b)
-
-  abbrev pub PutSays : Bus V L S → ℕ → ℕ → ℕ → Result Party Fault → Bus V L S → Type 0
-  PutSays b p c n r d = PutDone (meant v l s b) p c n r (meant v l s d)
 
   abbrev pub PutLaw : Bus V L S → ℕ → ℕ → ℕ → Result Party Fault → Bus V L S → Type 0
   PutLaw b p c n r d = Goes kinds (meant v l s b) (put_event p c n r (meant v l s b) (meant v l s d)) (meant v l s d)

@@ -18,11 +18,11 @@ use std::mem;
 pub(crate) enum Answer<T> {
     // an item, or none
     Item(Option<T>),
-    // by how many places an advance fell short; 0 if it is done
+    // by how many places an advance fell short, 0 if it is done: what the frame carries, so no `Result`
     Advanced(u64),
 }
 
-// Makes one call of a pile that has two ends.
+// Makes one call of a pile that has two ends. Which call it is comes from outside as a number, so a `match` and no closure.
 pub(crate) fn ask<C: TwoEnded>(pile: &mut C, request: Request<Call>) -> Answer<C::Item>
     ensures value { result ≡ answer request (C.Cursor.row pile.old) }
     ensures called { Called C.Cursor.weight request (pile_of C.Cursor pile.old) (pile_of C.Cursor pile.new) }
@@ -37,7 +37,8 @@ pub(crate) fn ask<C: TwoEnded>(pile: &mut C, request: Request<Call>) -> Answer<C
     }
 }
 
-// Makes one call of a pile that has a front alone.
+// Makes one call of a pile that has a front alone. Not one function with `ask`: the bounds differ, and so do the calls, so a
+// trait over both would only move these two bodies into its impls.
 pub(crate) fn ask_front<C: Cursor>(pile: &mut C, request: Request<FrontCall>) -> Answer<C::Item>
     ensures value { result ≡ answer (widened request) (C.Cursor.row pile.old) }
     ensures called { Called C.Cursor.weight (widened request) (pile_of C.Cursor pile.old) (pile_of C.Cursor pile.new) }

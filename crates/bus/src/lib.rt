@@ -45,6 +45,8 @@ pub struct Bus<V, L, S> {
     stir: S,
 }
 
+// Each clause names the ghost members of the three piles and of their items. A model of the bus would save that, but a pile's
+// row is a function, which the value of a model cannot hold.
 impl<V: TwoEnded<Item: Framed>, L: TwoEnded<Item: Framed>, S: Cursor<Item: Framed>> Bus<V, L, S> {
     // A bus of three piles, with nobody waiting.
     pub fn new(valve: V, label: L, stir: S) -> Bus<V, L, S>
@@ -62,9 +64,10 @@ impl<V: TwoEnded<Item: Framed>, L: TwoEnded<Item: Framed>, S: Cursor<Item: Frame
         }
     }
 
-    // Places a request, and answers the party that now waits. Next and next_back ignore n.
+    // Places a request, and answers the party that now waits. Next and next_back ignore n. The three are numbers as they come
+    // from outside, each with a refusal of its own, so they are not yet a `Request`.
     pub fn put(&mut self, party: u8, call: u8, n: u64) -> Result<Party, Fault>
-        ensures done { PutSays V.Cursor L.Cursor S.Cursor V.Item.Framed L.Item.Framed S.Item.Framed self.old party call n result self.new }
+        ensures done { PutSays V.Cursor L.Cursor S.Cursor self.old party call n result self.new }
         ensures law { PutLaw V.Cursor L.Cursor S.Cursor V.Item.Framed L.Item.Framed S.Item.Framed self.old party call n result self.new }
     {
         self.place(party, call, n)
@@ -90,7 +93,7 @@ impl<V: TwoEnded<Item: Framed>, L: TwoEnded<Item: Framed>, S: Cursor<Item: Frame
 
     // The code of `put`; the law is shown once, of its one answer there.
     fn place(&mut self, party: u8, call: u8, n: u64) -> Result<Party, Fault>
-        ensures { PutSays V.Cursor L.Cursor S.Cursor V.Item.Framed L.Item.Framed S.Item.Framed self.old party call n result self.new }
+        ensures { PutSays V.Cursor L.Cursor S.Cursor self.old party call n result self.new }
     {
         let party = Party::try_from(party)?;
         let call = Call::try_from(call)?;

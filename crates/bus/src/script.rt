@@ -8,7 +8,7 @@ use crate::line::Line;
 use cursor::{Cursor, TwoEnded};
 use frame::framed::Framed;
 
-// One call of a bus.
+// One call of a bus: a value and no closure, since whoever makes a list of them reads them as data.
 #[derive(Clone, Copy, Debug, PartialEq, Eq)]
 pub enum Step {
     Put { party: u8, call: u8, n: u64 },

@@ -13,7 +13,7 @@ pub(crate) struct Waits {
     stir: Option<Request<FrontCall>>,
 }
 
-// A request whose turn it is.
+// A request whose turn it is. Not a `Party` beside a request, since a stirrer's request has another type.
 #[derive(Clone, Copy)]
 pub(crate) enum Turn {
     Valve(Request<Call>),
