@@ -22,10 +22,10 @@ module _ {V L S A B C : Type 0} (v : Cursor.Ghosts V A) (l : Cursor.Ghosts L B) 
   abbrev made : Bus V L S
   made = record { waits = w; valve = x; label = y; stir = z }
 
-  rows_closed : (p : Party) → Closed (rows (meant v l s made) p)
-  rows_closed Valve = v.closed x
-  rows_closed Label = l.closed y
-  rows_closed Stir = s.closed z
+  rows_closed : Closed (v.row x) → Closed (l.row y) → Closed (s.row z) → (p : Party) → Closed (rows (meant v l s made) p)
+  rows_closed a b c Valve = a
+  rows_closed a b c Label = b
+  rows_closed a b c Stir = c
 
   nobody_waits : w.valve ≡ None → w.label ≡ None → w.stir ≡ None → (p : Party) → waiting w p ≡ None
   nobody_waits a b c Valve = a
@@ -38,9 +38,9 @@ module _ {V L S A B C : Type 0} (v : Cursor.Ghosts V A) (l : Cursor.Ghosts L B) 
   rows_end m n a b c d Label e = subst (Length (l.row y)) c d
   rows_end m n a b c d Stir e = absurd (cc)
 
-  pub new_bus : w.valve ≡ None → w.label ≡ None → w.stir ≡ None →
+  pub new_bus : w.valve ≡ None → w.label ≡ None → w.stir ≡ None → Closed (v.row x) → Closed (l.row y) → Closed (s.row z) →
       (m n : ℕ) → m ≡ size (v.row x) → Length (v.row x) m → n ≡ size (l.row y) → Length (l.row y) n → New (meant v l s made)
-  new_bus e f g m n a b c d = record { waits = fun_ext (nobody_waits e f g); closed = rows_closed; finite = rows_end m n a b c d }
+  new_bus e f g h i j m n a b c d = record { waits = fun_ext (nobody_waits e f g); closed = rows_closed h i j; finite = rows_end m n a b c d }
 
 -- a party and a call as they are read from their numbers
 party_number : (b : ℕ) (p : Party) → Some p ≡ party_of b → number p ≡ b

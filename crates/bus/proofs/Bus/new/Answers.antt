@@ -6,5 +6,6 @@ pub returns-clause-law : goal.returns-clause-law
 returns-clause-law g c =
     let z = c.default.ensures in
     starts _ (apts _ _ _ g.met.V.Item.Framed.free g.met.V.Item.Framed.told g.met.L.Item.Framed.free g.met.L.Item.Framed.told g.met.S.Item.Framed.free g.met.S.Item.Framed.told)
-    _ (new_bus g.V.Cursor g.L.Cursor g.S.Cursor c.default.result c.args.valve c.args.label c.args.stir z.0 z.1.0 z.1.1 c.len.result c.len-2.result
+    _ (new_bus g.V.Cursor g.L.Cursor g.S.Cursor c.default.result c.args.valve c.args.label c.args.stir z.0 z.1.0 z.1.1
+    (g.met.V.Cursor.closed c.args.valve) (g.met.L.Cursor.closed c.args.label) (g.met.S.Cursor.closed c.args.stir) c.len.result c.len-2.result
     c.len.ensures.value c.len.ensures.whole c.len-2.ensures.value c.len-2.ensures.whole)
