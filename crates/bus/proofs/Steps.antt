@@ -1,5 +1,5 @@
 -- One call of a bus: its promise from what the code's own calls promise.
-use Rattle.std.proofs.Common.{◌≡◌, ℕ, ◌≤◌, true, List, length, Some, None, Ok, Err, Option, Result, ok_or, sym, refl, ap, ◌∙◌, subst, ap₂, arith}
+use Rattle.std.proofs.Common.{◌≡◌, ℕ, ◌≤◌, true, List, length, Some, None, Ok, Option, Result, ok_or, sym, refl, ap, ◌∙◌, subst, ap₂, arith}
 use mathlib.Core.Path.{fun_ext}
 use Rattle.std.proofs.lemmas.Bool.Decides.{nat_tests}
 use Rattle.cursor.specs.Rows.{Closed, Length, size}
@@ -13,7 +13,7 @@ use Rattle.bus.specs.declared.party.Party.TheVariants.{Valve, Label, Stir}
 use Rattle.bus.specs.declared.request.Call.{Call}
 use Rattle.bus.specs.declared.request.Request.{Request}
 use Rattle.bus.specs.declared.waits.Waits.{Waits}
-use Rattle.bus.specs.Numbers.{number, party_of, has_back, call_of, fault_number}
+use Rattle.bus.specs.Numbers.{number, party_of, has_back, call_of}
 use Rattle.bus.specs.Waiting.{Served, widened_if, waiting, seat, admit_read, kept, told, verdict, turn, freed, asks_of}
 use Rattle.bus.specs.State.{State, Kinds, rows, framed, Called, CalledIf, PutDone, ExchangeDone, New, pile_of, piles, meant, weights}
 
@@ -52,10 +52,6 @@ read : {A : Type 0} (o : Option A) (x : A) (f : Fault) → Ok x ≡ ok_or o f �
 read None x f e = cc
 read (Some y) x f e = cc
 
-unread : {A : Type 0} (o : Option A) (e f : Fault) → Err e ≡ ok_or o f → (e ≡ f) × (o ≡ None)
-unread None e f i = (cc, refl)
-unread (Some y) e f i = absurd (cc)
-
 -- a put of a party that there is, and of a call that there is, is that of its request
 pub put_done : {I : Party → Type 0} (s t : State I) (p c n : ℕ) (q : Party) (d : Call) (r : Result Party Fault) →
     Ok q ≡ ok_or (party_of p) UnknownParty → Ok d ≡ ok_or (call_of c) UnknownCall →
@@ -65,21 +61,6 @@ put_done s t p c n q d r e f a w m =
     let x = read _ q _ e in
     let y = ap₂ (λ o u. admit_read o u n s.waits) x (read _ d _ f) in
     record { answer = a ∙ ap₂ verdict (party_number p q x) y; waits = w ∙ ap (λ v. kept v s.waits) y; piles = m }
-
--- a put of a party that there is not
-pub party_unknown : {I : Party → Type 0} (s : State I) (p c n : ℕ) (r : Result Party Fault) (e : Fault) → r ≡ Err e → Err e ≡ ok_or (party_of p) UnknownParty → PutDone s p c n r s
-party_unknown s p c n r e h i =
-    let z = unread _ e _ i in
-    let y = ap (λ o. admit_read o (call_of c) n s.waits) z.1 in
-    record { answer = ap told h ∙ ap (λ f. Err (fault_number f)) z.0 ∙ sym (ap (verdict p) y); waits = sym (ap (λ v. kept v s.waits) y); piles = λ _. refl }
-
--- a put of a call that there is not
-pub call_unknown : {I : Party → Type 0} (s : State I) (p c n : ℕ) (q : Party) (r : Result Party Fault) (e : Fault) → r ≡ Err e →
-    Ok q ≡ ok_or (party_of p) UnknownParty → Err e ≡ ok_or (call_of c) UnknownCall → PutDone s p c n r s
-call_unknown s p c n q r e h i j =
-    let z = unread _ e _ j in
-    let y = ap₂ (λ o u. admit_read o u n s.waits) (sym (read _ q _ i)) z.1 in
-    record { answer = ap told h ∙ ap (λ f. Err (fault_number f)) z.0 ∙ sym (ap (verdict p) y); waits = sym (ap (λ v. kept v s.waits) y); piles = λ _. refl }
 
 -- an exchange with room that serves u
 pub exchanged : {I : Party → Type 0} (k : Kinds I) (s t : State I) (u v : Option Served) (out out' : List ℕ) (n : ℕ) → 10 ≤ length out →

@@ -50,6 +50,7 @@ pub(crate) fn ask_front<C: Cursor>(pile: &mut C, request: Request<FrontCall>) ->
     }
 }
 
+#[tactic(auto, using(crate::proofs::Bytes::two_then))]
 impl<T: Framed> Answer<T> {
     // Writes the frame at the start of out, and answers its length.
     fn write(self, line: u8, out: &mut [u8]) -> usize

@@ -1,9 +1,7 @@
 use Rattle.bus.proofs.Law.{put_goes, apts}
 use Rattle.bus.proofs.Bus.put.Goals as goal
 
-pub returns : goal.returns
-returns g c = record {
-  done = c.place.ensures;
-  law = put_goes _ (apts _ _ _ g.met.V.Item.Framed.free g.met.V.Item.Framed.told g.met.L.Item.Framed.free g.met.L.Item.Framed.told g.met.S.Item.Framed.free g.met.S.Item.Framed.told)
-      _ _ _ _ _ _ c.place.ensures;
-}
+pub returns-clause-law : goal.returns-clause-law
+returns-clause-law g c =
+    put_goes _ (apts _ _ _ g.met.V.Item.Framed.free g.met.V.Item.Framed.told g.met.L.Item.Framed.free g.met.L.Item.Framed.told g.met.S.Item.Framed.free g.met.S.Item.Framed.told)
+    _ _ _ _ _ _ c.place.ensures
