@@ -1,4 +1,4 @@
-// What a pile answers, and the frame that shows it.
+//! What a pile answers, and the frame that shows it.
 ghost use Rattle.std.specs.Prelude.{◌≡◌, ◌≤◌, length};
 ghost use Rattle.frame.specs.Bytes.{over};
 ghost use Rattle.bus.specs.Numbers.{number};
@@ -16,13 +16,15 @@ use frame::framed::Framed;
 use std::mem;
 
 pub(crate) enum Answer<T> {
-    // an item, or none
+    /// an item, or none
     Item(Option<T>),
-    // by how many places an advance fell short, 0 if it is done: what the frame carries, so no `Result`
+    /// by how many places an advance fell short, 0 if it is done
+    // (what the frame carries, so no `Result`)
     Advanced(u64),
 }
 
-// Makes one call of a pile that has two ends. Which call it is comes from outside as a number, so a `match` and no closure.
+/// Makes one call of a pile that has two ends.
+// Which call it is comes from outside as a number, so a `match` and no closure.
 pub(crate) fn ask<C: TwoEnded>(pile: &mut C, request: Request<Call>) -> Answer<C::Item>
     ensures value { result ≡ answer request (C.Cursor.row pile.old) }
     ensures called { Called C.Cursor.weight request (pile_of C.Cursor pile.old) (pile_of C.Cursor pile.new) }
@@ -37,8 +39,9 @@ pub(crate) fn ask<C: TwoEnded>(pile: &mut C, request: Request<Call>) -> Answer<C
     }
 }
 
-// Makes one call of a pile that has a front alone. Not one function with `ask`: the bounds differ, and so do the calls, so a
-// trait over both would only move these two bodies into its impls.
+/// Makes one call of a pile that has a front alone.
+// Not one function with `ask`: the bounds differ, and so do the calls, so a trait over both would only move these two bodies
+// into its impls.
 pub(crate) fn ask_front<C: Cursor>(pile: &mut C, request: Request<FrontCall>) -> Answer<C::Item>
     ensures value { result ≡ answer (widened request) (C.Cursor.row pile.old) }
     ensures called { Called C.Cursor.weight (widened request) (pile_of C.Cursor pile.old) (pile_of C.Cursor pile.new) }
@@ -52,7 +55,7 @@ pub(crate) fn ask_front<C: Cursor>(pile: &mut C, request: Request<FrontCall>) ->
 
 #[tactic(auto, using(crate::proofs::Bytes::two_then))]
 impl<T: Framed> Answer<T> {
-    // Writes the frame at the start of out, and answers its length.
+    /// Writes the frame at the start of out, and answers its length.
     fn write(self, line: u8, out: &mut [u8]) -> usize
         requires { 10 ≤ length out.old }
         ensures bytes { out.new ≡ over (frame T.Framed line self) out.old }
@@ -77,7 +80,7 @@ impl<T: Framed> Answer<T> {
         }
     }
 
-    // The same with the line switched to the party while the frame is written.
+    /// The same with the line switched to the party while the frame is written.
     pub(crate) fn show(self, party: Party, line: &mut Line, out: &mut [u8]) -> usize
         requires { 10 ≤ length out.old }
         ensures line { line.new ≡ line.old }

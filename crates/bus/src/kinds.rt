@@ -1,4 +1,4 @@
-// The first bytes of the bus's own frames; an item's frame begins with the item's kind.
+//! The first bytes of the bus's own frames; an item's frame begins with the item's kind.
 #[derive(Clone, Copy)]
 pub(crate) enum Kind {
     Accepted = 0x20,

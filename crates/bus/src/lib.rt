@@ -1,10 +1,10 @@
-// The bus: three parties ask for items of their piles, and the valve goes first.
-//
-// A bus owns a pile for each party: two-ended for the valve board and the label printer, a front cursor for the stirrer.
-// Each party has one waiting place. `put` places a request there, `exchange` serves the lowest party that waits and writes
-// one frame. Both take a bounded number of steps and no heap.
-//
-// What holds over a bus's whole past, `Lawful` of specs/Law.antt, stands on `new`, `put` and `exchange`.
+//! The bus: three parties ask for items of their piles, and the valve goes first.
+//!
+//! A bus owns a pile for each party: two-ended for the valve board and the label printer, a front cursor for the stirrer.
+//! Each party has one waiting place. `put` places a request there, `exchange` serves the lowest party that waits and writes
+//! one frame. Both take a bounded number of steps and no heap.
+//!
+//! What holds over a bus's whole past, `Lawful` of specs/Law.antt, stands on `new`, `put` and `exchange`.
 
 #![tactic(auto)]
 
@@ -34,7 +34,7 @@ use party::Party;
 use request::{Call, Request};
 use waits::{Turn, Waits};
 
-// The least room for a frame: the longest has so many bytes.
+/// The least room for a frame: the longest has so many bytes.
 pub const ROOM: usize = 10;
 
 #[derive(Drop)]
@@ -48,7 +48,7 @@ pub struct Bus<V, L, S> {
 // Each clause names the ghost members of the three piles and of their items. A model of the bus would save that, but a pile's
 // row is a function, which the value of a model cannot hold.
 impl<V: TwoEnded<Item: Framed>, L: TwoEnded<Item: Framed>, S: Cursor<Item: Framed>> Bus<V, L, S> {
-    // A bus of three piles, with nobody waiting.
+    /// A bus of three piles, with nobody waiting.
     pub fn new(valve: V, label: L, stir: S) -> Bus<V, L, S>
         ensures made { result ≡ fresh valve label stir }
         ensures law { NewLaw V.Cursor L.Cursor S.Cursor V.Item.Framed L.Item.Framed S.Item.Framed result }
@@ -64,8 +64,8 @@ impl<V: TwoEnded<Item: Framed>, L: TwoEnded<Item: Framed>, S: Cursor<Item: Frame
         }
     }
 
-    // Places a request, and answers the party that now waits. Next and next_back ignore n. The three are numbers as they come
-    // from outside, each with a refusal of its own, so they are not yet a `Request`.
+    /// Places a request, and answers the party that now waits. Next and next_back ignore n.
+    // The three are numbers as they come from outside, each with a refusal of its own, so they are not yet a `Request`.
     pub fn put(&mut self, party: u8, call: u8, n: u64) -> Result<Party, Fault>
         ensures done { PutSays V.Cursor L.Cursor S.Cursor self.old party call n result self.new }
         ensures law { PutLaw V.Cursor L.Cursor S.Cursor V.Item.Framed L.Item.Framed S.Item.Framed self.old party call n result self.new }
@@ -73,8 +73,8 @@ impl<V: TwoEnded<Item: Framed>, L: TwoEnded<Item: Framed>, S: Cursor<Item: Frame
         self.place(party, call, n)
     }
 
-    // Serves the lowest party that waits: frees its place, makes its call, writes the frame at the start of out, leaves the
-    // rest, and answers the frame's length.
+    /// Serves the lowest party that waits: frees its place, makes its call, writes the frame at the start of out, leaves the
+    /// rest, and answers the frame's length.
     pub fn exchange(&mut self, line: &mut Line, out: &mut [u8]) -> Result<usize, Fault>
         ensures line { line.new ≡ line.old }
         ensures done { ExchangeSays V.Cursor L.Cursor S.Cursor V.Item.Framed L.Item.Framed S.Item.Framed self.old out.old result out.new self.new }
@@ -83,7 +83,7 @@ impl<V: TwoEnded<Item: Framed>, L: TwoEnded<Item: Framed>, S: Cursor<Item: Frame
         self.serve(line, out)
     }
 
-    // How often the leaves of the three piles have been touched, or the largest count if that is more.
+    /// How often the leaves of the three piles have been touched, or the largest count if that is more.
     pub fn tally(&self) -> u64
         ensures { result ≡ capped (tallies (meant V.Cursor L.Cursor S.Cursor self.now)) }
     {
@@ -91,7 +91,7 @@ impl<V: TwoEnded<Item: Framed>, L: TwoEnded<Item: Framed>, S: Cursor<Item: Frame
         two.saturating_add(self.stir.tally())
     }
 
-    // The code of `put`; the law is shown once, of its one answer there.
+    /// The code of `put`; the law is shown once, of its one answer there.
     fn place(&mut self, party: u8, call: u8, n: u64) -> Result<Party, Fault>
         ensures { PutSays V.Cursor L.Cursor S.Cursor self.old party call n result self.new }
     {
@@ -100,7 +100,7 @@ impl<V: TwoEnded<Item: Framed>, L: TwoEnded<Item: Framed>, S: Cursor<Item: Frame
         self.waits.seat(party, Request { call, n })
     }
 
-    // The code of `exchange`, likewise.
+    /// The code of `exchange`, likewise.
     fn serve(&mut self, line: &mut Line, out: &mut [u8]) -> Result<usize, Fault>
         ensures line { line.new ≡ line.old }
         ensures done { ExchangeSays V.Cursor L.Cursor S.Cursor V.Item.Framed L.Item.Framed S.Item.Framed self.old out.old result out.new self.new }

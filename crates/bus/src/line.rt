@@ -1,4 +1,4 @@
-// The line: which device is switched on.
+//! The line: which device is switched on.
 ghost use Rattle.std.specs.Prelude.{◌≡◌};
 ghost use Rattle.bus.specs.declared.party.Party.TheVariants.{Valve};
 
@@ -10,7 +10,7 @@ pub struct Line {
 }
 
 impl Line {
-    // A new line has the valve board switched on.
+    /// A new line has the valve board switched on.
     pub fn new() -> Line
         ensures { result.on ≡ Valve }
     {
@@ -32,7 +32,7 @@ impl Default for Line {
     }
 }
 
-// Holds the line alone while a frame is written; its end puts the line back where it was.
+/// Holds the line alone while a frame is written; its end puts the line back where it was.
 pub(crate) struct Held<'a> {
     pub(crate) line: &'a mut Line,
     pub(crate) former: Party,

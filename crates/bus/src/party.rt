@@ -1,11 +1,11 @@
-// Who asks on the bus.
+//! Who asks on the bus.
 ghost use Rattle.std.specs.Prelude.{◌≡◌, ok_or};
 ghost use Rattle.bus.specs.declared.fault.Fault.TheVariants.{UnknownParty};
 ghost use Rattle.bus.specs.Numbers.{number, party_of};
 
 use crate::fault::Fault;
 
-// The three devices, in the order in which they are served.
+/// The three devices, in the order in which they are served.
 #[derive(Clone, Copy, Debug, PartialEq, Eq)]
 pub enum Party {
     Valve = 1,

@@ -1,4 +1,4 @@
-// What a request's sender is told at once: that it waits, or why not.
+//! What a request's sender is told at once: that it waits, or why not.
 ghost use Rattle.bus.specs.Receipts.{notice, Told};
 
 use crate::ROOM;
@@ -7,8 +7,8 @@ use crate::kinds::Kind;
 use crate::party::Party;
 use refusal::Refusal;
 
-// Writes the frame of a put's answer at the start of out, leaves the rest, and answers the frame's length. The refusal is the
-// bus's, or that of whatever stands before it.
+/// Writes the frame of a put's answer at the start of out, leaves the rest, and answers the frame's length. The refusal is the
+/// bus's, or that of whatever stands before it.
 pub fn write_receipt<R: Refusal>(answer: Result<Party, R>, out: &mut [u8]) -> Result<usize, Fault>
     ensures { Told (notice R.number answer) out.old result out.new }
 {

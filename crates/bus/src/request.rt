@@ -1,11 +1,11 @@
-// What a party may ask of its pile.
+//! What a party may ask of its pile.
 ghost use Rattle.std.specs.Prelude.{◌≡◌, ok_or};
 ghost use Rattle.bus.specs.declared.fault.Fault.TheVariants.{UnknownCall, NoBack};
 ghost use Rattle.bus.specs.Numbers.{call_of, front_of};
 
 use crate::fault::Fault;
 
-// The calls of a two-ended cursor.
+/// The calls of a two-ended cursor.
 #[derive(Clone, Copy, Debug, PartialEq, Eq)]
 pub enum Call {
     Next,
@@ -16,7 +16,7 @@ pub enum Call {
     AdvanceBack,
 }
 
-// The calls of a front cursor: a back call cannot be written.
+/// The calls of a front cursor: a back call cannot be written.
 #[derive(Clone, Copy)]
 pub(crate) enum FrontCall {
     Next,
@@ -24,7 +24,7 @@ pub(crate) enum FrontCall {
     Advance,
 }
 
-// A call of a pile, of either kind, with its count, which next and next_back ignore.
+/// A call of a pile, of either kind, with its count, which next and next_back ignore.
 #[derive(Clone, Copy, Debug, PartialEq, Eq)]
 pub struct Request<C> {
     pub call: C,
@@ -49,7 +49,7 @@ impl TryFrom<u8> for Call {
     }
 }
 
-// The same call of a front cursor, if that has it.
+/// The same call of a front cursor, if that has it.
 impl TryFrom<Call> for FrontCall {
     type Error = Fault;
 

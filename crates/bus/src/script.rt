@@ -1,4 +1,4 @@
-// A caller of the bus: it makes a new bus of any three piles, and then all the calls of a list, one after the other.
+//! A caller of the bus: it makes a new bus of any three piles, and then all the calls of a list, one after the other.
 ghost use Rattle.std.specs.Prelude.{◌≡◌};
 ghost use Rattle.bus.specs.Promises.{fresh};
 ghost use Rattle.bus.specs.Scripts.{StepSays, RunSays};
@@ -8,14 +8,15 @@ use crate::line::Line;
 use cursor::{Cursor, TwoEnded};
 use frame::framed::Framed;
 
-// One call of a bus: a value and no closure, since whoever makes a list of them reads them as data.
+/// One call of a bus.
+// A value and no closure, since whoever makes a list of them reads them as data.
 #[derive(Clone, Copy, Debug, PartialEq, Eq)]
 pub enum Step {
     Put { party: u8, call: u8, n: u64 },
     Exchange,
 }
 
-// Makes one call.
+/// Makes one call.
 fn make<V: TwoEnded<Item: Framed>, L: TwoEnded<Item: Framed>, S: Cursor<Item: Framed>>(
     bus: &mut Bus<V, L, S>,
     line: &mut Line,
@@ -35,8 +36,8 @@ fn make<V: TwoEnded<Item: Framed>, L: TwoEnded<Item: Framed>, S: Cursor<Item: Fr
     }
 }
 
-// Makes a new bus and all the calls; each exchange writes its frame to the same buffer, over the one before. Answers the bus as
-// it then is.
+/// Makes a new bus and all the calls; each exchange writes its frame to the same buffer, over the one before. Answers the bus as
+/// it then is.
 pub fn run<V: TwoEnded<Item: Framed>, L: TwoEnded<Item: Framed>, S: Cursor<Item: Framed>>(
     valve: V,
     label: L,

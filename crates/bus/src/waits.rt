@@ -1,4 +1,4 @@
-// The waiting places, one for each party.
+//! The waiting places, one for each party.
 ghost use Rattle.std.specs.Prelude.{◌≡◌};
 ghost use Rattle.bus.specs.Waiting.{Reserved, Seated, waiting, turn, turn_of, freed};
 
@@ -13,7 +13,8 @@ pub(crate) struct Waits {
     stir: Option<Request<FrontCall>>,
 }
 
-// A request whose turn it is. Not a `Party` beside a request, since a stirrer's request has another type.
+/// A request whose turn it is.
+// Not a `Party` beside a request, since a stirrer's request has another type.
 #[derive(Clone, Copy)]
 pub(crate) enum Turn {
     Valve(Request<Call>),
@@ -21,7 +22,7 @@ pub(crate) enum Turn {
     Stir(Request<FrontCall>),
 }
 
-// Puts a request into a place, unless one waits there.
+/// Puts a request into a place, unless one waits there.
 fn reserve<C: Copy>(place: &mut Option<Request<C>>, request: Request<C>) -> Result<(), Fault>
     ensures { Reserved request place.old result place.new }
 {
@@ -33,7 +34,7 @@ fn reserve<C: Copy>(place: &mut Option<Request<C>>, request: Request<C>) -> Resu
 }
 
 impl Waits {
-    // Puts a request into its party's place, and answers the party.
+    /// Puts a request into its party's place, and answers the party.
     pub(crate) fn seat(&mut self, party: Party, request: Request<Call>) -> Result<Party, Fault>
         ensures { Seated party request self.old result self.new }
     {
@@ -48,7 +49,7 @@ impl Waits {
         Ok(party)
     }
 
-    // Takes out the request of the lowest party that waits.
+    /// Takes out the request of the lowest party that waits.
     pub(crate) fn next(&mut self) -> Option<Turn>
         ensures value { turn_of result ≡ turn (waiting self.old) }
         ensures rest { waiting self.new ≡ freed (turn_of result) (waiting self.old) }

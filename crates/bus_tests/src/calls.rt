@@ -1,4 +1,4 @@
-// Calls of a bus with what they must answer and leave.
+//! Calls of a bus with what they must answer and leave.
 use bus::Bus;
 use bus::line::Line;
 use bus::receipt::write_receipt;
@@ -8,15 +8,16 @@ use std::process::Abort;
 
 #[derive(Clone, Copy)]
 pub(crate) enum Call {
-    // party, call and n of a put, and its receipt's bytes: unnamed, so that each call is one line of a table
+    /// party, call and n of a put, and its receipt's bytes
+    // (unnamed, so that each call is one line of a table)
     Put(u8, u8, u64, &'static [u8]),
-    // an exchange's frame, and how often it touches the leaves
+    /// an exchange's frame, and how often it touches the leaves
     Exchange(&'static [u8], u64),
 }
 
 const FILL: u8 = 0xEE;
 
-// One call into a buffer of 12 bytes: its answer, the bytes it wrote and those it left, the line, and the touches.
+/// One call into a buffer of 12 bytes: its answer, the bytes it wrote and those it left, the line, and the touches.
 fn make<V: TwoEnded<Item: Framed>, L: TwoEnded<Item: Framed>, S: Cursor<Item: Framed>>(
     rt: &impl Abort,
     bus: &mut Bus<V, L, S>,

@@ -5,7 +5,7 @@ use cursor::count::CountLeaf;
 
 const MAX: u64 = u64::MAX;
 
-// Calls with the largest count, from both ends, on the longest row.
+/// Calls with the largest count, from both ends, on the longest row.
 #[test]
 fn largest_counts(rt: HostRuntime) {
     let mut bus = Bus::new(
@@ -28,7 +28,7 @@ fn largest_counts(rt: HostRuntime) {
     make_all(&rt, &mut bus, &calls);
 }
 
-// A row that is empty from the first, and one that is used up; a call that finds nothing is a touch too.
+/// A row that is empty from the first, and one that is used up; a call that finds nothing is a touch too.
 #[test]
 fn nothing_left(rt: HostRuntime) {
     let mut bus = Bus::new(
@@ -49,7 +49,7 @@ fn nothing_left(rt: HostRuntime) {
     make_all(&rt, &mut bus, &calls);
 }
 
-// Next and next_back ignore n; nth and nth_back at the last place and one behind it; an advance to the end and past it.
+/// Next and next_back ignore n; nth and nth_back at the last place and one behind it; an advance to the end and past it.
 #[test]
 fn each_call(rt: HostRuntime) {
     let mut bus = Bus::new(

@@ -1,4 +1,4 @@
-// The bus over piles of leaves, as a newcomer would try it.
+//! The bus over piles of leaves, as a newcomer would try it.
 
 #![tactic(auto)]
 

@@ -13,7 +13,7 @@ use cursor::slice::SliceLeaf;
 use frame::framed::Framed;
 use refusal::Refusal;
 
-// Each of put's refusals, in the order of its checks; what waits is served as if they had not been.
+/// Each of put's refusals, in the order of its checks; what waits is served as if they had not been.
 #[test]
 fn puts(rt: HostRuntime) {
     let mut bus = Bus::new(
@@ -41,7 +41,7 @@ fn puts(rt: HostRuntime) {
     make_all(&rt, &mut bus, &calls);
 }
 
-// A buffer of 9 bytes is too short, whether somebody waits or not.
+/// A buffer of 9 bytes is too short, whether somebody waits or not.
 #[test]
 fn nine_bytes(rt: HostRuntime) {
     let mut bus = Bus::new(
@@ -59,7 +59,7 @@ fn nine_bytes(rt: HostRuntime) {
     make_all(&rt, &mut bus, &[Exchange(&[0x23, 1, 5, 0, 10], 1)]);
 }
 
-// One of 10 does.
+/// One of 10 does.
 #[test]
 fn ten_bytes(rt: HostRuntime) {
     let mut bus = Bus::new(
@@ -74,7 +74,7 @@ fn ten_bytes(rt: HostRuntime) {
     assert!(rt; out == [0x23, 1, 5, 0, 10, 7, 7, 7, 7, 7]);
 }
 
-// A receipt needs the same room, and says the numbers of other refusals too.
+/// A receipt needs the same room, and says the numbers of other refusals too.
 #[test]
 fn receipts(rt: HostRuntime) {
     let refused: Result<Party, u8> = Err(12);
@@ -87,7 +87,7 @@ fn receipts(rt: HostRuntime) {
     assert_eq!(rt; Fault::Short.number(), 25);
 }
 
-// Parties and calls by their numbers, and the first number past them.
+/// Parties and calls by their numbers, and the first number past them.
 #[test]
 fn numbers(rt: HostRuntime) {
     assert!(rt; Party::try_from(3) == Ok(Party::Stir));

@@ -28,7 +28,7 @@ pub(crate) const LABEL: [Stroke; 1] = [Stroke {
     volume: 100,
 }];
 
-// The label asks first and is served second; then nobody waits.
+/// The label asks first and is served second; then nobody waits.
 #[test]
 fn valve_first(rt: HostRuntime) {
     let mut bus = Bus::new(
@@ -46,7 +46,7 @@ fn valve_first(rt: HostRuntime) {
     make_all(&rt, &mut bus, &calls);
 }
 
-// Every other frame; strokes and numbers on one bus.
+/// Every other frame; strokes and numbers on one bus.
 #[test]
 fn every_frame(rt: HostRuntime) {
     let mut bus = Bus::new(
@@ -68,7 +68,7 @@ fn every_frame(rt: HostRuntime) {
     make_all(&rt, &mut bus, &calls);
 }
 
-// All three wait: valve, label, stir; each is served once, and a valve that comes again goes first again.
+/// All three wait: valve, label, stir; each is served once, and a valve that comes again goes first again.
 #[test]
 fn lowest_party(rt: HostRuntime) {
     let mut bus = Bus::new(
@@ -90,7 +90,7 @@ fn lowest_party(rt: HostRuntime) {
     make_all(&rt, &mut bus, &calls);
 }
 
-// A list of calls from a new bus on; then the bus goes on from there.
+/// A list of calls from a new bus on; then the bus goes on from there.
 #[test]
 fn whole_script(rt: HostRuntime) {
     let steps = [
