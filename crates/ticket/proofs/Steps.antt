@@ -1,9 +1,10 @@
 -- The checks of one record, one after another, give the first fault of the list.
 use Rattle.std.proofs.Common.{◌≡◌, ℕ, ◌-◌, ◌<◌, Bool, true, false, cond, ◌⊎◌, List, [], ◌∷◌, ◌++◌, length, take, Some, Ok, Err, Result, sym, refl, ap, ◌∙◌, subst, inl, inr, arith, length-take-le}
 use Rattle.std.specs.List.{AllByRecursion}
+use Rattle.std.specs.Result.{MatchResult, is_ok}
 use Rattle.std.specs.Int.Digits.{AllBelowBase}
 use Rattle.std.proofs.ByRecursion.{All-append, All-take}
-use Rattle.std.proofs.lemmas.Bool.{ltb-false, eqb-false}
+use Rattle.std.proofs.lemmas.Bool.{ltb-false, eqb-false, true≢false}
 use Rattle.ticket.specs.declared.faults.FieldFault.{FieldFault}
 use Rattle.ticket.specs.declared.faults.RecordFault.{RecordFault}
 use Rattle.ticket.specs.declared.faults.RecordFault.TheVariants.{Field}
@@ -12,19 +13,18 @@ use Rattle.ticket.specs.declared.faults.CanFault.TheVariants.{Record}
 use Rattle.ticket.specs.declared.record.Record.{Record as Entry}
 use Rattle.ticket.specs.declared.seen.Room.{Room}
 use Rattle.ticket.specs.Kinds.{body_in}
-use Rattle.ticket.specs.Numbers.{can_fault, map_err, placed}
+use Rattle.ticket.specs.Numbers.{can_fault, map_err}
 use Rattle.ticket.specs.Refusals.{faults, first_of, unknown, cut, misplaced, twice, high, still, full, miscounted}
 use Rattle.ticket.proofs.Codes.{bodies, Known, Known.k1, Known.k2, Known.k3, Known.k4, Known.k5, Known.k6, Known.k7, Known.k15, known, Coded, encode}
 use Rattle.ticket.specs.Reading.{then, record_of, framed, ordered, fielded, admitted, stepped}
 
-abbrev ok_n : ℕ → Result ℕ (RecordFault × ℕ)
-ok_n n = Ok n
+abbrev ok_with : {A F : Type 0} → A → Result A F
+ok_with x = Ok x
 
-abbrev ok_e : Entry → Result Entry (RecordFault × ℕ)
-ok_e r = Ok r
-
-abbrev ok_u : Unit {0} → Result (Unit {0}) CanFault
-ok_u u = Ok u
+-- an answer that `map_err` passes on was one before
+pub before_map : {A E : Type 0} (F : Type 0) (Q : E → Type 0) (r : Result A E) (x : A) → MatchResult r (λ y. ok_with {F = F} x ≡ Ok y) Q → true ≡ is_ok r → r ≡ Ok x
+before_map F Q (Ok y) x m v = cc
+before_map F Q (Err e) x m v = absurd (true≢false v)
 
 -- an answer that a layer above passes on was one below
 under : {A E F : Type 0} (f : E → F) (r : Result A E) (x : A) → Ok x ≡ map_err f r → r ≡ Ok x
@@ -38,18 +38,14 @@ module _ (table : List ℕ) (room : Room) (c : ℕ → ℕ) (p k : ℕ) (zs : Li
   abbrev pub ordering : ℕ → Result Entry CanFault
   ordering n = then (ordered c p k) (λ _. fielding n)
 
-  -- the answer of the last check is that of all, where those before it passed; x and y are what the first and the third answered
-  pub passes : (n : ℕ) (r : Entry) (x : Result ℕ RecordFault) (y : Result Entry RecordFault) (v : Result Entry CanFault)
-      → x ≡ framed table k zs → ok_n n ≡ placed x p
-      → ok_u tt ≡ ordered c p k
-      → y ≡ map_err Field (fielded k (take (n - 0) zs)) → ok_e r ≡ placed y p
+  -- the answer of the last check is that of all, where those before it passed
+  pub passes : (n : ℕ) (r : Entry) (v : Result Entry CanFault)
+      → framed table k zs ≡ Ok n → ordered c p k ≡ Ok tt → map_err Field (fielded k (take n zs)) ≡ Ok r
       → v ≡ admitted room c p r → v ≡ stepped table room c p k zs
-  passes n r x y v ex a b ey d e =
-      let z : n - 0 ≡ n = omega arith in
-      e ∙ sym (ap (λ (w : Result ℕ RecordFault). then (map_err (λ f. Record f p) w) ordering) (sym ex ∙ under (λ f. (f, p)) x n a)
-      ∙ (ap (λ (w : Result (Unit {0}) CanFault). then w (λ _. fielding n)) (sym b)
-      ∙ ap (λ (w : Result Entry RecordFault). then (map_err (λ f. Record f p) w) (λ q. admitted room c p q))
-      (ap (λ (m : ℕ). map_err Field (fielded k (take m zs))) (sym z) ∙ (sym ey ∙ under (λ f. (f, p)) y r d))))
+  passes n r v a b d e =
+      e ∙ sym (ap (λ (w : Result ℕ RecordFault). then (map_err (λ f. Record f p) w) ordering) a
+      ∙ (ap (λ (w : Result (Unit {0}) CanFault). then w (λ _. fielding n)) b
+      ∙ ap (λ (w : Result Entry RecordFault). then (map_err (λ f. Record f p) w) (λ q. admitted room c p q)) d))
 
 -- a check that found nothing
 abbrev pub Off : Bool × CanFault → Type 0

@@ -58,7 +58,3 @@ Numbered = (e : CanFault) → can_fault (can_number e) (can_place e) ≡ e
 abbrev pub map_err : {A E F : Type 0} → (E → F) → Result A E → Result A F
 map_err f (Ok x) = Ok x
 map_err f (Err e) = Err (f e)
-
--- a record's fault with the place of the record
-abbrev pub placed : {A : Type 0} → Result A RecordFault → ℕ → Result A (RecordFault × ℕ)
-placed r p = map_err (λ f. (f, p)) r

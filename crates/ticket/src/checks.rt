@@ -6,39 +6,18 @@ ghost use Rattle.ticket.specs.Numbers.{map_err};
 ghost use Rattle.ticket.specs.Kinds.{body_in};
 ghost use Rattle.ticket.specs.Reading.{tally, framed, ordered, stroke_in, fielded, admitted, stepped};
 
-use crate::faults::{CanFault, FieldFault, RecordFault, at};
-use crate::kinds::{BODIES, UNKNOWN, body_len};
+use crate::faults::{CanFault, FieldFault, RecordFault};
+use crate::kinds::{
+    BODIES, END, FIRST, HEAD, LIMIT, PURGE, RESUME, STRIDE, TINT, UNKNOWN, body_len,
+};
 use crate::record::Record;
 use crate::seen::{Room, Seen};
+use byteorder::{BigEndian, ByteOrder};
 use cursor::stride::Stride;
 use frame::stroke::Stroke;
 
 // The machine has canisters 0 to 15, with a valve each.
 const TOP: u8 = 15;
-
-// Numbers stand in tickets with the most significant byte first.
-fn be16(bytes: &[u8]) -> u16
-    requires { length bytes.now ≡ 2 }
-    ensures { result ≡ number_from_digits 256 bytes.now }
-{
-    u16::from_be_bytes([bytes[0], bytes[1]])
-}
-
-fn be32(bytes: &[u8]) -> u32
-    requires { length bytes.now ≡ 4 }
-    ensures { result ≡ number_from_digits 256 bytes.now }
-{
-    u32::from_be_bytes([bytes[0], bytes[1], bytes[2], bytes[3]])
-}
-
-fn be64(bytes: &[u8]) -> u64
-    requires { length bytes.now ≡ 8 }
-    ensures { result ≡ number_from_digits 256 bytes.now }
-{
-    u64::from_be_bytes([
-        bytes[0], bytes[1], bytes[2], bytes[3], bytes[4], bytes[5], bytes[6], bytes[7],
-    ])
-}
 
 // A stroke's body.
 pub fn stroke(body: &[u8]) -> Stroke
@@ -47,7 +26,7 @@ pub fn stroke(body: &[u8]) -> Stroke
 {
     Stroke {
         valve: body[0],
-        volume: be16(&body[1..3]),
+        volume: BigEndian::read_u16(&body[1..]),
     }
 }
 
@@ -69,15 +48,15 @@ fn field(kind: u8, body: &[u8]) -> Result<Record, FieldFault>
     ensures { result ≡ fielded kind body.now }
 {
     match kind {
-        0x02..=0x03 | 0x07 if body[0] > TOP => Err(FieldFault::High),
-        0x01 => Ok(Record::Head(be32(&body[0..4]), be16(&body[4..6]))),
-        0x02 => Ok(Record::Tint(stroke(body))),
-        0x03 => Ok(Record::Purge(stroke(body))),
-        0x04 => Ok(Record::Resume(be64(body))),
-        0x05 => Ok(Record::Limit(be64(body))),
-        0x06 => Ok(Record::Every(Stride::new(be64(body))?)),
-        0x07 => Ok(Record::First(body[0])),
-        _ => Ok(Record::End(be16(body))),
+        TINT..=PURGE | FIRST if body[0] > TOP => Err(FieldFault::High),
+        HEAD => Ok(Record::Head(BigEndian::read_u32(body), BigEndian::read_u16(&body[4..]))),
+        TINT => Ok(Record::Tint(stroke(body))),
+        PURGE => Ok(Record::Purge(stroke(body))),
+        RESUME => Ok(Record::Resume(BigEndian::read_u64(body))),
+        LIMIT => Ok(Record::Limit(BigEndian::read_u64(body))),
+        STRIDE => Ok(Record::Every(Stride::new(BigEndian::read_u64(body))?)),
+        FIRST => Ok(Record::First(body[0])),
+        _ => Ok(Record::End(BigEndian::read_u16(body))),
     }
 }
 
@@ -97,10 +76,10 @@ impl Seen {
         ensures { result ≡ ordered (tally self.now) place kind }
     {
         match kind {
-            0x01 if self.counts[0x01] == 0 => Ok(()),
-            0x01 => Err(CanFault::Misplaced(place)),
-            _ if self.counts[0x01] == 0 => Err(CanFault::Misplaced(place)),
-            0x04..=0x07 if self.counts[kind as usize] > 0 => Err(CanFault::Twice(place)),
+            HEAD if self.counts[HEAD as usize] == 0 => Ok(()),
+            HEAD => Err(CanFault::Misplaced(place)),
+            _ if self.counts[HEAD as usize] == 0 => Err(CanFault::Misplaced(place)),
+            RESUME..=FIRST if self.counts[kind as usize] > 0 => Err(CanFault::Twice(place)),
             _ => Ok(()),
         }
     }
@@ -111,9 +90,14 @@ impl Seen {
         ensures { result ≡ admitted room (tally self.now) place «record» }
     {
         match record {
-            Record::Tint(_) if self.counts[0x02] >= room.tints => Err(CanFault::Full(place)),
-            Record::Purge(_) if self.counts[0x03] >= room.purges => Err(CanFault::Full(place)),
-            Record::End(n) if n as usize != self.counts[0x02] + self.counts[0x03] => Err(
+            Record::Tint(_) if self.counts[TINT as usize] >= room.tints => Err(CanFault::Full(
+                place,
+            )),
+            Record::Purge(_) if self.counts[PURGE as usize] >= room.purges => Err(CanFault::Full(
+                place,
+            )),
+            Record::End(n)
+                if n as usize != self.counts[TINT as usize] + self.counts[PURGE as usize] => Err(
                 CanFault::Count(place),
             ),
             _ => Ok(record),
@@ -125,9 +109,9 @@ impl Seen {
         requires { tally self.now 2 + tally self.now 3 < 2 ^ 32 }
         ensures { result ≡ stepped BODIES room (tally self.now) place kind tail.now }
     {
-        let len = at(frame(kind, tail), place)?;
+        let len = frame(kind, tail).map_err(|fault| (fault, place))?;
         self.order(kind, place)?;
-        let record = at(content(kind, &tail[0..len]), place)?;
+        let record = content(kind, &tail[..len]).map_err(|fault| (fault, place))?;
         self.admit(record, place, room)
     }
 }

@@ -3,46 +3,53 @@ ghost use Rattle.std.specs.Prelude.{◌≡◌};
 ghost use Rattle.ticket.specs.declared.faults.FieldFault.TheVariants.{ZeroStride};
 ghost use Rattle.ticket.specs.declared.faults.RecordFault.TheVariants.{Field};
 ghost use Rattle.ticket.specs.declared.faults.CanFault.TheVariants.{Record};
-ghost use Rattle.ticket.specs.Numbers.{field_number, record_number, can_number, can_place, placed, Numbered};
+ghost use Rattle.ticket.specs.Numbers.{field_number, record_number, can_number, can_place, Numbered};
 
 use cursor::stride::StrideFault;
+use refusal::Refusal;
+use thiserror::Error;
 
 // A field holds what the machine does not have.
-#[derive(Clone, Copy, Debug, PartialEq, Eq)]
+#[derive(Clone, Copy, Debug, PartialEq, Eq, Error)]
 pub enum FieldFault {
-    // a label stride of 0
-    ZeroStride,
-    // a valve or canister above 15
-    High,
+    #[error("The label stride is 0")]
+    ZeroStride = 1,
+    #[error("A valve or canister is above 15")]
+    High = 7,
 }
 
 // One record cannot be read.
-#[derive(Clone, Copy, Debug, PartialEq, Eq)]
+#[derive(Clone, Copy, Debug, PartialEq, Eq, Error)]
 pub enum RecordFault {
-    // a kind that no record has
+    #[error("No record has this kind")]
     Unknown,
-    // a body that runs past the ticket's end
+    #[error("The record's body runs past the end of the ticket")]
     Cut,
+    #[error(transparent)]
     Field(FieldFault),
 }
 
 // The ticket is no can's. Each case holds its place in the ticket: of the faulty record's kind byte if nothing else is said.
-#[derive(Clone, Copy, Debug, PartialEq, Eq)]
+#[derive(Clone, Copy, Debug, PartialEq, Eq, Error)]
 pub enum CanFault {
-    // more bytes than a ticket may have; the place is the limit
+    // the place is the limit
+    #[error("A ticket has at most {0} bytes")]
     TooLong(usize),
-    // the first record is no head, or a later one is
+    #[error("The first record is not a head, or a later one is")]
     Misplaced(usize),
-    // a setting stands a second time
+    #[error("A setting stands a second time")]
     Twice(usize),
-    // the stroke's table has no free entry
+    #[error("The stroke's table has no free entry")]
     Full(usize),
-    // the end's number is not that of the strokes before it
+    #[error("The end's number is not the number of strokes before it")]
     Count(usize),
-    // there are bytes after the end; the place is that of the first of them
+    // the place is that of the first byte after the end
+    #[error("There are bytes after the end record")]
     After(usize),
-    // there is no end; the place is the ticket's length
+    // the place is the ticket's length
+    #[error("There is no end record")]
     NoEnd(usize),
+    #[error("{0}")]
     Record(RecordFault, usize),
 }
 
@@ -68,36 +75,23 @@ impl From<FieldFault> for RecordFault {
 impl From<(RecordFault, usize)> for CanFault {
     ghost from_gives = { λ f r. r ≡ Record f.0 f.1 };
 
-    fn from(record: (RecordFault, usize)) -> CanFault {
-        CanFault::Record(record.0, record.1)
+    fn from((fault, place): (RecordFault, usize)) -> CanFault {
+        CanFault::Record(fault, place)
     }
 }
 
-// A record's fault joined with the place of the record, for `?` to carry on.
-pub(crate) fn at<T>(r: Result<T, RecordFault>, place: usize) -> Result<T, (RecordFault, usize)>
-    ensures { result ≡ placed r place }
-{
-    match r {
-        Ok(x) => Ok(x),
-        Err(fault) => Err((fault, place)),
+impl Refusal for FieldFault {
+    ghost number = { field_number };
+
+    fn number(self) -> u8 {
+        self as u8
     }
 }
 
-impl FieldFault {
-    pub fn number(self) -> u8
-        ensures { result ≡ field_number self }
-    {
-        match self {
-            FieldFault::ZeroStride => 1,
-            FieldFault::High => 7,
-        }
-    }
-}
+impl Refusal for RecordFault {
+    ghost number = { record_number };
 
-impl RecordFault {
-    pub fn number(self) -> u8
-        ensures { result ≡ record_number self }
-    {
+    fn number(self) -> u8 {
         match self {
             RecordFault::Unknown => 3,
             RecordFault::Cut => 4,
@@ -106,10 +100,10 @@ impl RecordFault {
     }
 }
 
-impl CanFault {
-    pub fn number(self) -> u8
-        ensures { result ≡ can_number self }
-    {
+impl Refusal for CanFault {
+    ghost number = { can_number };
+
+    fn number(self) -> u8 {
         match self {
             CanFault::TooLong(_) => 2,
             CanFault::Misplaced(_) => 5,
@@ -121,26 +115,26 @@ impl CanFault {
             CanFault::Record(fault, _) => fault.number(),
         }
     }
+}
 
+impl CanFault {
     pub fn place(self) -> usize
         ensures { result ≡ can_place self }
     {
         match self {
-            CanFault::TooLong(p)
-            | CanFault::Misplaced(p)
-            | CanFault::Twice(p)
-            | CanFault::Full(p)
-            | CanFault::Count(p)
-            | CanFault::After(p)
-            | CanFault::NoEnd(p)
-            | CanFault::Record(_, p) => p,
+            CanFault::TooLong(place)
+            | CanFault::Misplaced(place)
+            | CanFault::Twice(place)
+            | CanFault::Full(place)
+            | CanFault::Count(place)
+            | CanFault::After(place)
+            | CanFault::NoEnd(place)
+            | CanFault::Record(_, place) => place,
         }
     }
 }
 
 // A fault's number and place give back the fault: no two faults have both in common.
-pub fn numbers_stand() -> u8
+pub fn numbers_stand()
     ensures { Numbered }
-{
-    0
-}
+{}

@@ -2,18 +2,36 @@
 ghost use Rattle.std.specs.Prelude.{◌≡◌};
 ghost use Rattle.ticket.specs.Kinds.{body_in};
 
+pub const HEAD: u8 = 0x01;
+
+pub const TINT: u8 = 0x02;
+
+pub const PURGE: u8 = 0x03;
+
+pub const RESUME: u8 = 0x04;
+
+pub const LIMIT: u8 = 0x05;
+
+// the label's stride
+pub const STRIDE: u8 = 0x06;
+
+// the first canister to stir
+pub const FIRST: u8 = 0x07;
+
+pub const END: u8 = 0x0F;
+
 // The mark of an unknown kind: no known record has an empty body.
 pub const UNKNOWN: u8 = 0;
 
-// The body's length for each kind from 01 to 0F. Reader and promises have it from here.
+// The body's length for each kind from HEAD to END. Reader and promises have it from here.
 pub const BODIES: [u8; 15] = [
-    6, // 01 head
-    3, // 02 tint
-    3, // 03 purge
-    8, // 04 resume
-    8, // 05 limit
-    8, // 06 label stride
-    1, // 07 first canister to stir
+    6, // HEAD
+    3, // TINT
+    3, // PURGE
+    8, // RESUME
+    8, // LIMIT
+    8, // STRIDE
+    1, // FIRST
     UNKNOWN, // 08
     UNKNOWN, // 09
     UNKNOWN, // 0A
@@ -21,14 +39,14 @@ pub const BODIES: [u8; 15] = [
     UNKNOWN, // 0C
     UNKNOWN, // 0D
     UNKNOWN, // 0E
-    2, // 0F end
+    2, // END
 ];
 
 pub fn body_len(kind: u8) -> u8
     ensures { result ≡ body_in BODIES kind }
 {
     match kind {
-        0x01..=0x0F => BODIES[kind as usize - 1],
+        HEAD..=END => BODIES[kind as usize - 1],
         _ => UNKNOWN,
     }
 }

@@ -8,7 +8,7 @@ ghost use Rattle.ticket.specs.Loading.{room_of, filled, Spells, Loading, Judged}
 
 use crate::checks::stroke;
 use crate::faults::CanFault;
-use crate::kinds::{BODIES, body_len};
+use crate::kinds::{BODIES, PURGE, TINT, body_len};
 use crate::loaded::Loaded;
 use crate::record::Record;
 use crate::seen::{Room, Seen};
@@ -54,11 +54,11 @@ fn fill(bytes: &[u8], purges: &mut [Stroke], tints: &mut [Stroke])
         let len = body_len(kind) as usize;
         let body = &bytes[at + 1..at + 1 + len];
         match kind {
-            0x02 => {
+            TINT => {
                 tints[t] = stroke(body);
                 t += 1;
             }
-            0x03 => {
+            PURGE => {
                 purges[p] = stroke(body);
                 p += 1;
             }
@@ -86,15 +86,11 @@ pub fn load(bytes: &[u8], purges: &mut [Stroke], tints: &mut [Stroke]) -> Result
 }
 
 // Two lists of records with the same writing are the same list.
-pub fn unambiguous() -> u8
+pub fn unambiguous()
     ensures { Unambiguous }
-{
-    0
-}
+{}
 
 // The worked examples of the format's pages, on the definitions.
-pub fn samples_stand() -> u8
+pub fn samples_stand()
     ensures { Samples BODIES }
-{
-    0
-}
+{}

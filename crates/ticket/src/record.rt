@@ -2,11 +2,12 @@
 ghost use Rattle.std.specs.Prelude.{◌≡◌};
 ghost use Rattle.ticket.specs.Records.{kind};
 
+use crate::kinds::{END, FIRST, HEAD, LIMIT, PURGE, RESUME, STRIDE, TINT};
 use cursor::stride::Stride;
 use frame::stroke::Stroke;
 
 // One record, as its author means it.
-#[derive(Clone, Copy)]
+#[derive(Clone, Copy, Debug)]
 pub enum Record {
     // the can's number, and its size in ml
     Head(u32, u16),
@@ -30,14 +31,14 @@ impl Record {
         ensures { result ≡ kind self }
     {
         match self {
-            Record::Head(_, _) => 0x01,
-            Record::Tint(_) => 0x02,
-            Record::Purge(_) => 0x03,
-            Record::Resume(_) => 0x04,
-            Record::Limit(_) => 0x05,
-            Record::Every(_) => 0x06,
-            Record::First(_) => 0x07,
-            Record::End(_) => 0x0F,
+            Record::Head(_, _) => HEAD,
+            Record::Tint(_) => TINT,
+            Record::Purge(_) => PURGE,
+            Record::Resume(_) => RESUME,
+            Record::Limit(_) => LIMIT,
+            Record::Every(_) => STRIDE,
+            Record::First(_) => FIRST,
+            Record::End(_) => END,
         }
     }
 }

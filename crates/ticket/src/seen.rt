@@ -3,12 +3,13 @@ ghost use Rattle.std.specs.Prelude.{◌≡◌, ◌+◌, ◌^◌, ◌<◌, slice_
 ghost use Rattle.ticket.specs.Records.{kind};
 ghost use Rattle.ticket.specs.Reading.{nothing, noted, answered};
 
+use crate::kinds::{PURGE, TINT};
 use crate::loaded::Loaded;
 use crate::record::Record;
 use cursor::stride::Stride;
 
 // How many entries the two tables have.
-#[derive(Clone, Copy)]
+#[derive(Clone, Copy, Debug, PartialEq, Eq)]
 pub struct Room {
     pub purges: usize,
     pub tints: usize,
@@ -66,8 +67,8 @@ impl Seen {
         ensures { result ≡ answered self }
     {
         Loaded {
-            purges: self.counts[0x03],
-            tints: self.counts[0x02],
+            purges: self.counts[PURGE as usize],
+            tints: self.counts[TINT as usize],
             can: self.can,
             size: self.size,
             resume: self.resume,
