@@ -4,30 +4,31 @@ use Rattle.std.proofs.lemmas.Bool.{cases_eq, eq-eqb, ne_eqb}
 use Rattle.cursor.specs.declared.stride.Stride.{Stride}
 use Rattle.ticket.specs.declared.record.Record.{Record}
 use Rattle.ticket.specs.declared.record.Record.TheVariants.{Head, Tint, Purge, Resume, Limit, Every, First, End}
+use Rattle.ticket.specs.declared.seen.Room.{Room}
 use Rattle.ticket.specs.declared.seen.Seen.{Seen}
 use Rattle.ticket.specs.Records.{kind}
 use Rattle.ticket.specs.Lists.{can_of, says, is, count, said, Says}
 use Rattle.ticket.specs.Reading.{tally, nothing, stride_or, noted, answered}
-use Rattle.ticket.proofs.Codes.{body_some}
+use Rattle.ticket.proofs.Codes.{bodies, body_some}
 use Rattle.ticket.proofs.Rights.{count_append}
 
 pub record Holds (s : Seen) (rs : List Record) : Type 0 where
   pub counts : (k : ℕ) → tally s k ≡ count k rs
   pub kinds : length s.counts ≡ 16
-  pub can : s.can ≡ said can_of 1 0 rs
-  pub size : s.size ≡ said says 1 0 rs
-  pub resume : s.resume ≡ said says 4 0 rs
-  pub limit : s.limit ≡ said says 5 18446744073709551615 rs
-  pub stride : s.stride.steps ≡ said says 6 1 rs
-  pub first : s.first ≡ said says 7 0 rs
+  pub can : s.said.can ≡ said can_of 1 0 rs
+  pub size : s.said.size ≡ said says 1 0 rs
+  pub resume : s.said.resume ≡ said says 4 0 rs
+  pub limit : s.said.limit ≡ said says 5 18446744073709551615 rs
+  pub stride : s.said.stride.steps ≡ said says 6 1 rs
+  pub first : s.said.first ≡ said says 7 0 rs
 
 zeros : (n k : ℕ) → ◌≡◌ {A = ℕ} (get_or (replicate n 0) k 0) 0
 zeros zero k = refl
 zeros (suc n) zero = refl
 zeros (suc n) (suc k) = zeros n k
 
-pub holds_none : Holds nothing []
-holds_none = record { counts = zeros 16; kinds = refl; can = refl; size = refl; resume = refl; limit = refl; stride = refl; first = refl }
+pub holds_none : (room : Room) → Holds (nothing room) []
+holds_none room = record { counts = zeros 16; kinds = refl; can = refl; size = refl; resume = refl; limit = refl; stride = refl; first = refl }
 
 said_push : (f : Record → ℕ) (k d : ℕ) (rs : List Record) (r : Record) → said f k d (rs ++ (r ∷ [])) ≡ cond (eqb (kind r) k) (f r) (said f k d rs)
 said_push f k d [] r = refl
@@ -44,7 +45,7 @@ stride_push (First n) d = refl
 stride_push (End n) d = refl
 
 module _ (s : Seen) (rs : List Record) (r : Record) (h : Holds s rs) where
-  counted : (k : ℕ) → tally (noted s r) k ≡ count k (rs ++ (r ∷ []))
+  counted : (k : ℕ) → tally (noted bodies s r) k ≡ count k (rs ++ (r ∷ []))
   counted k =
       let a = count_append k rs (r ∷ []) in
       let b = h.counts k in
@@ -60,16 +61,16 @@ module _ (s : Seen) (rs : List Record) (r : Record) (h : Holds s rs) where
   follows : (f : Record → ℕ) (k d x : ℕ) → x ≡ said f k d rs → cond (eqb (kind r) k) (f r) x ≡ said f k d (rs ++ (r ∷ []))
   follows f k d x e = ap (λ (y : ℕ). cond (eqb (kind r) k) (f r) y) e ∙ sym (said_push f k d rs r)
 
-  pub holds_push : Holds (noted s r) (rs ++ (r ∷ []))
+  pub holds_push : Holds (noted bodies s r) (rs ++ (r ∷ []))
   holds_push = record {
     counts = counted;
     kinds = length-set s.counts (kind r) (tally s (kind r) + 1) ∙ h.kinds;
-    can = follows can_of 1 0 s.can h.can;
-    size = follows says 1 0 s.size h.size;
-    resume = follows says 4 0 s.resume h.resume;
-    limit = follows says 5 18446744073709551615 s.limit h.limit;
-    stride = stride_push r s.stride ∙ follows says 6 1 s.stride.steps h.stride;
-    first = follows says 7 0 s.first h.first;
+    can = follows can_of 1 0 s.said.can h.can;
+    size = follows says 1 0 s.said.size h.size;
+    resume = follows says 4 0 s.said.resume h.resume;
+    limit = follows says 5 18446744073709551615 s.said.limit h.limit;
+    stride = stride_push r s.said.stride ∙ follows says 6 1 s.said.stride.steps h.stride;
+    first = follows says 7 0 s.said.first h.first;
   }
 
 pub holds_says : (s : Seen) (rs : List Record) → Holds s rs → Says rs (answered s)

@@ -1,10 +1,10 @@
 -- One turn of the reader: a record more, or the ticket's answer.
-use Rattle.std.proofs.Common.{◌≡◌, ℕ, ◌+◌, ◌-◌, ◌<◌, ◌≤◌, Bool, true, cond, ◌≢◌, List, [], ◌∷◌, ◌++◌, length, get_or, take, drop, Some, None, Ok, Err, Result, sym, refl, ap, ◌∙◌, subst, ap₂, append_assoc, append-nil, arith, length-append, length-drop, take-append-drop, drop-drop}
+use Rattle.std.proofs.Common.{◌≡◌, ℕ, ◌+◌, ◌-◌, ◌<◌, ◌≤◌, Bool, true, cond, ◌≢◌, List, [], ◌∷◌, ◌++◌, length, take, drop, Some, None, Ok, Err, Result, sym, refl, ap, ◌∙◌, subst, ap₂, append_assoc, append-nil, arith, length-append, length-drop, take-append-drop, drop_at}
 use mathlib.Core.Path.{fun_ext}
 use Rattle.std.specs.Int.Digits.{AllBelowBase, number_from_digits}
 use Rattle.std.proofs.ByRecursion.{All-drop}
-use Rattle.std.proofs.lemmas.List.{drop_more, drop_all, take_rest}
-use Rattle.std.proofs.lemmas.Bool.{lt-ltb}
+use Rattle.std.proofs.lemmas.List.{nil_from_length}
+use Rattle.std.proofs.lemmas.Bool.{lt-ltb, ltb-false}
 use Rattle.std.proofs.lemmas.Bool.Decides.{nat_tests}
 use Rattle.ticket.specs.declared.faults.CanFault.{CanFault}
 use Rattle.ticket.specs.declared.record.Record.{Record}
@@ -24,77 +24,82 @@ use Rattle.ticket.proofs.Rights.{Stands, right_none, right_push}
 use Rattle.ticket.proofs.Verdicts.{written_append, count_le}
 use Rattle.ticket.proofs.Seens.{Holds, holds_none, holds_push, holds_says}
 
--- at place at, behind right records, with what they say
-pub record Sofar (room : Room) (bs : List ℕ) (at : ℕ) (s : Seen) : Type 0 where
+-- behind right records, with what they say; the bytes ys are left
+pub record Sofar (room : Room) (bs ys : List ℕ) (s : Seen) : Type 0 where
   pub rs : List Record
   pub right : Right room rs
-  pub bytes : bs ≡ written rs ++ drop at bs
-  pub place : at ≡ length (written rs)
+  pub bytes : bs ≡ written rs ++ ys
+  pub place : s.place ≡ length (written rs)
+  pub tables : s.room ≡ room
   pub holds : Holds s rs
 
-pub sofar_none : (room : Room) (bs : List ℕ) → Sofar room bs 0 nothing
-sofar_none room bs = record { rs = []; right = right_none room; bytes = refl; place = refl; holds = holds_none }
+pub sofar_none : (room : Room) (bs : List ℕ) → Sofar room bs bs (nothing room)
+sofar_none room bs = record { rs = []; right = right_none room; bytes = refl; place = refl; tables = refl; holds = holds_none room }
 
-module _ (room : Room) (bs : List ℕ) (at : ℕ) (s : Seen) (f : Sofar room bs at s) where
-  pub small : length bs ≤ 32768 → at ≤ length bs → (k : ℕ) → tally s k ≤ 32768
-  small l h k = omega (arith, f.holds.counts k, count_le k f.rs, f.place)
+module _ (room : Room) (bs ys : List ℕ) (s : Seen) (f : Sofar room bs ys s) where
+  pub lengths : s.place + length ys ≡ length bs
+  lengths = omega (arith, f.place, ap length f.bytes, length-append (written f.rs) ys)
+
+  pub small : length bs ≤ 32768 → (k : ℕ) → tally s k ≤ 32768
+  small l k = omega (arith, f.holds.counts k, count_le k f.rs, f.place, lengths)
 
   counting : tally s ≡ (λ k. count k f.rs)
   counting = fun_ext f.holds.counts
 
-  broken : length bs ≤ 32768 → (e : CanFault) → wrong bodies room (tally s) at (drop at bs) ≡ Some e → Broken bodies room bs e
+  broken : length bs ≤ 32768 → (e : CanFault) → wrong bodies room (tally s) s.place ys ≡ Some e → Broken bodies room bs e
   broken l e w = record {
     short = l;
     rs = f.rs;
-    ys = drop at bs;
+    ys = ys;
     right = f.right;
     bytes = f.bytes;
-    wrong = sym (ap₂ (λ (c : ℕ → ℕ) (p : ℕ). wrong bodies room c p (drop at bs)) counting f.place) ∙ w;
+    wrong = sym (ap₂ (λ (c : ℕ → ℕ) (p : ℕ). wrong bodies room c p ys) counting f.place) ∙ w;
   }
 
   -- the ticket ends with no end
-  pub no_end : length bs ≤ 32768 → length bs ≤ at → Broken bodies room bs (can_fault 11 (length bs))
+  pub no_end : length bs ≤ 32768 → length ys ≡ 0 → Broken bodies room bs (can_fault 11 (length bs))
   no_end l h =
-      let e : length bs ≡ at = omega (arith, f.place, ap length f.bytes, length-append (written f.rs) (drop at bs)) in
-      broken l (can_fault 11 (length bs)) (ap (wrong bodies room (tally s) at) (drop_all at bs h) ∙ ap (λ (p : ℕ). Some (can_fault 11 p)) (sym e))
+      let e : ys ≡ [] = nil_from_length ys h in
+      let p : s.place ≡ length bs = omega (arith, lengths) in
+      broken l (can_fault 11 (length bs)) (ap (wrong bodies room (tally s) s.place) e ∙ ap (λ (p : ℕ). Some (can_fault 11 p)) p)
 
-  module _ (u : AllBelowBase 256 bs) (l : length bs ≤ 32768) (h : at < length bs) where
-    abbrev k : ℕ
-    k = get_or bs at 0
+  module _ (u : AllBelowBase 256 bs) (l : length bs ≤ 32768) (k : ℕ) (zs : List ℕ) (here : ys ≡ k ∷ zs) where
+    bytes_here : AllBelowBase 256 ys
+    bytes_here =
+        subst (AllBelowBase 256) (ap (drop (length (written f.rs))) f.bytes ∙ drop_at (written f.rs) ys (length (written f.rs)) refl)
+        (All-drop (λ d. d < 256) (length (written f.rs)) bs u)
 
-    abbrev zs : List ℕ
-    zs = drop (at + 1) bs
+    -- what is left behind the record here
+    abbrev pub rest : List ℕ
+    rest = drop (body_in bodies k) zs
 
-    here : drop at bs ≡ k ∷ zs
-    here = drop_more bs at 0 h
-
-    -- what the checks answer of the record here; the code reads the bytes behind its kind to their end
+    -- what the checks answer of the record here
     abbrev Answers : Result Record CanFault → Type 0
-    Answers v = v ≡ stepped bodies room (tally s) at k (take (length bs - (at + 1)) zs)
-
-    answers : (v : Result Record CanFault) → Answers v → stepped bodies room (tally s) at k zs ≡ v
-    answers v q = sym (q ∙ ap (stepped bodies room (tally s) at k) (take_rest bs (at + 1)))
+    Answers v = v ≡ stepped bodies s.room (tally s) s.place k zs
 
     abbrev here_faults : List (Bool × CanFault)
-    here_faults = faults bodies room (tally s) at k zs (take (body_in bodies k) zs)
+    here_faults = faults bodies room (tally s) s.place k zs (take (body_in bodies k) zs)
 
     abbrev behind : Bool × CanFault
-    behind = after bodies at k zs
+    behind = after bodies s.place k zs
 
-    told_here : (v : Result Record CanFault) → Answers v → Tells room (tally s) at k zs v
-    told_here v q = told room (tally s) at k zs (All-drop (λ d. d < 256) (at + 1) bs u) v (answers v q)
+    told_here : (v : Result Record CanFault) → Answers v → Tells room (tally s) s.place k zs v
+    told_here v q = told room (tally s) s.place k zs (subst (AllBelowBase 256) here bytes_here).1 v (sym (q ∙ ap (λ (t : Room). stepped bodies t (tally s) s.place k zs) f.tables))
 
     -- a fault of the record here
     pub stops : (e : CanFault) → Answers (Err e) → Broken bodies room bs e
-    stops e q = broken l e (ap (wrong bodies room (tally s) at) here ∙ told_here (Err e) q (behind ∷ []))
+    stops e q = broken l e (ap (wrong bodies room (tally s) s.place) here ∙ told_here (Err e) q (behind ∷ []))
 
     module _ (r : Record) (q : Answers (Ok r)) where
-      abbrev pub next : ℕ
-      next = at + (1 + body_in bodies (kind r))
+      abbrev pub on : Seen
+      on = noted bodies s r
 
       -- the record here has no fault, and is written here
-      passed : Passed room (tally s) at k zs r
+      passed : Passed room (tally s) s.place k zs r
       passed = told_here (Ok r) q
+
+      pub whole : body_in bodies k ≤ length zs
+      whole = ltb-false (length zs) (body_in bodies k) passed.off.1.0
 
       kind_here : k ≡ kind r
       kind_here = sym passed.coded.kind_is
@@ -109,34 +114,32 @@ module _ (room : Room) (bs : List ℕ) (at : ℕ) (s : Seen) (f : Sofar room bs 
             free = ap (full room (tally s)) (sym kind_here) ∙ passed.free;
           })
 
-      next_is : at + 1 + body_in bodies k ≡ next
-      next_is = ap (λ (j : ℕ). at + 1 + body_in bodies j) kind_here ∙ omega arith
+      next_is : s.place + 1 + body_in bodies k ≡ on.place
+      next_is = ap (λ (j : ℕ). s.place + 1 + body_in bodies j) kind_here ∙ omega arith
 
-      left : drop at bs ≡ kind r ∷ (body r ++ drop next bs)
-      left =
-          here ∙ ap₂ ◌∷◌ kind_here
-          (sym (take-append-drop (body_in bodies k) zs) ∙ ap₂ ◌++◌ (sym passed.coded.body_is) (drop-drop (body_in bodies k) (at + 1) bs ∙ ap (λ (i : ℕ). drop i bs) next_is))
+      left : ys ≡ kind r ∷ (body r ++ rest)
+      left = here ∙ ap₂ ◌∷◌ kind_here (sym (take-append-drop (body_in bodies k) zs) ∙ ap (λ (xs : List ℕ). xs ++ rest) (sym passed.coded.body_is))
 
-      bytes_on : bs ≡ written (f.rs ++ (r ∷ [])) ++ drop next bs
+      bytes_on : bs ≡ written (f.rs ++ (r ∷ [])) ++ rest
       bytes_on =
-          f.bytes ∙ (ap (λ (ys : List ℕ). written f.rs ++ ys) left
-          ∙ sym (ap (λ (ys : List ℕ). ys ++ drop next bs) (written_append f.rs (r ∷ []))
-          ∙ (append_assoc (written f.rs) (written (r ∷ [])) (drop next bs) ∙ ap (λ (ys : List ℕ). written f.rs ++ (kind r ∷ ys)) (append_assoc (body r) [] (drop next bs)))))
+          f.bytes ∙ (ap (λ (xs : List ℕ). written f.rs ++ xs) left
+          ∙ sym (ap (λ (xs : List ℕ). xs ++ rest) (written_append f.rs (r ∷ []))
+          ∙ (append_assoc (written f.rs) (written (r ∷ [])) rest ∙ ap (λ (xs : List ℕ). written f.rs ++ (kind r ∷ xs)) (append_assoc (body r) [] rest))))
 
-      place_on : next ≡ length (written (f.rs ++ (r ∷ [])))
+      place_on : on.place ≡ length (written (f.rs ++ (r ∷ [])))
       place_on = omega (arith, f.place, ap length (written_append f.rs (r ∷ [])), length-append (written f.rs) (written (r ∷ [])), length-append (body r) [], body_length r)
 
       -- one record more
-      pub goes : kind r ≢ 15 → Sofar room bs next (noted s r)
-      goes n = record { rs = f.rs ++ (r ∷ []); right = right_push room f.rs r f.right stands n; bytes = bytes_on; place = place_on; holds = holds_push s f.rs r f.holds }
+      pub goes : kind r ≢ 15 → Sofar room bs rest on
+      goes n = record { rs = f.rs ++ (r ∷ []); right = right_push room f.rs r f.right stands n; bytes = bytes_on; place = place_on; tables = f.tables; holds = holds_push s f.rs r f.holds }
 
       -- bytes after the end
-      pub spills : kind r ≡ 15 → next < length bs → Broken bodies room bs (can_fault 10 next)
+      pub spills : kind r ≡ 15 → 0 < length rest → Broken bodies room bs (can_fault 10 on.place)
       spills e n =
           let t : followed bodies k zs ≡ true =
-          ap (λ (j : ℕ). followed bodies j zs) (kind_here ∙ e) ∙ lt-ltb 2 (length zs) (omega (arith, n, length-drop (at + 1) bs, ap (body_in bodies) e)) in
-          broken l (can_fault 10 next)
-          (ap (wrong bodies room (tally s) at) here ∙ (skip here_faults (behind ∷ []) passed.off
+          ap (λ (j : ℕ). followed bodies j zs) (kind_here ∙ e) ∙ lt-ltb 2 (length zs) (omega (arith, n, length-drop (body_in bodies k) zs, ap (body_in bodies) (kind_here ∙ e))) in
+          broken l (can_fault 10 on.place)
+          (ap (wrong bodies room (tally s) s.place) here ∙ (skip here_faults (behind ∷ []) passed.off
           ∙ (ap (λ (b : Bool). cond b (Some behind.1) None) t ∙ ap (λ (p : ℕ). Some (can_fault 10 p)) next_is)))
 
       -- the end, and its number
@@ -152,10 +155,10 @@ module _ (room : Room) (bs : List ℕ) (at : ℕ) (s : Seen) (f : Sofar room bs 
           let three = f.holds.counts 3 in
           grind (arith, nat_tests)
 
-      pub ends : (m : ℕ) → r ≡ End m → length bs ≤ next → (rs : List Record) × Lawful room rs × (written rs ≡ bs) × Says rs (answered (noted s r))
+      pub ends : (m : ℕ) → r ≡ End m → length rest ≡ 0 → (rs : List Record) × Lawful room rs × (written rs ≡ bs) × Says rs (answered on)
       ends m e n =
           let rs : List Record = f.rs ++ (r ∷ []) in
-          let w : written rs ≡ bs = sym (bytes_on ∙ (ap (λ (ys : List ℕ). written rs ++ ys) (drop_all next bs n) ∙ append-nil (written rs))) in (
+          let w : written rs ≡ bs = sym (bytes_on ∙ (ap (λ (xs : List ℕ). written rs ++ xs) (nil_from_length rest n) ∙ append-nil (written rs))) in (
             rs,
             record {
               inner = f.rs;
@@ -165,5 +168,5 @@ module _ (room : Room) (bs : List ℕ) (at : ℕ) (s : Seen) (f : Sofar room bs 
               short = omega (arith, ap length w);
             },
             w,
-            holds_says (noted s r) rs (holds_push s f.rs r f.holds),
+            holds_says on rs (holds_push s f.rs r f.holds),
           )

@@ -73,15 +73,12 @@ stepped table room c p k zs =
     then (map_err (λ f. Record f p) (map_err Field (fielded k (take n zs)))) (λ r. admitted room c p r)))
 
 -- before the first record
-abbrev pub nothing : Seen
-nothing = record {
+abbrev pub nothing : Room → Seen
+nothing room = record {
+  room = room;
+  place = 0;
   counts = replicate 16 0;
-  can = 0;
-  size = 0;
-  resume = 0;
-  limit = 18446744073709551615;
-  stride = one_stride;
-  first = 0;
+  said = record { purges = 0; tints = 0; can = 0; size = 0; resume = 0; limit = 18446744073709551615; stride = one_stride; first = 0 };
 }
 
 abbrev pub stride_or : Entry → Stride → Stride
@@ -94,26 +91,27 @@ stride_or (Every s) d = s
 stride_or (First n) d = d
 stride_or (End n) d = d
 
+-- what records say, the last of them r
+abbrev pub saying : Loaded → Entry → Loaded
+saying l r = record {
+  purges = l.purges;
+  tints = l.tints;
+  can = cond (kind r == 1) (can_of r) l.can;
+  size = cond (kind r == 1) (says r) l.size;
+  resume = cond (kind r == 4) (says r) l.resume;
+  limit = cond (kind r == 5) (says r) l.limit;
+  stride = stride_or r l.stride;
+  first = cond (kind r == 7) (says r) l.first;
+}
+
 -- what has been seen after one record more
-abbrev pub noted : Seen → Entry → Seen
-noted s r = record {
-  counts = slice_set s.counts (kind r) (slice_index s.counts (kind r) + 1);
-  can = cond (kind r == 1) (can_of r) s.can;
-  size = cond (kind r == 1) (says r) s.size;
-  resume = cond (kind r == 4) (says r) s.resume;
-  limit = cond (kind r == 5) (says r) s.limit;
-  stride = stride_or r s.stride;
-  first = cond (kind r == 7) (says r) s.first;
+abbrev pub noted : List ℕ → Seen → Entry → Seen
+noted table s r = record {
+  room = s.room;
+  place = s.place + (1 + body_in table (kind r));
+  counts = slice_set s.counts (kind r) (tally s (kind r) + 1);
+  said = saying s.said r;
 }
 
 abbrev pub answered : Seen → Loaded
-answered s = record {
-  purges = slice_index s.counts 3;
-  tints = slice_index s.counts 2;
-  can = s.can;
-  size = s.size;
-  resume = s.resume;
-  limit = s.limit;
-  stride = s.stride;
-  first = s.first;
-}
+answered s = record s.said { purges = tally s 3; tints = tally s 2 }

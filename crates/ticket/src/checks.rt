@@ -11,7 +11,7 @@ use crate::kinds::{
     BODIES, END, FIRST, HEAD, LIMIT, PURGE, RESUME, STRIDE, TINT, UNKNOWN, body_len,
 };
 use crate::record::Record;
-use crate::seen::{Room, Seen};
+use crate::seen::Seen;
 use byteorder::{BigEndian, ByteOrder};
 use cursor::stride::Stride;
 use frame::stroke::Stroke;
@@ -72,46 +72,40 @@ fn content(kind: u8, body: &[u8]) -> Result<Record, RecordFault>
 
 impl Seen {
     // Whether a record of this kind may stand here: a head first and only there, and each setting once.
-    fn order(&self, kind: u8, place: usize) -> Result<(), CanFault>
-        ensures { result ≡ ordered (tally self.now) place kind }
+    fn order(&self, kind: u8) -> Result<(), CanFault>
+        ensures { result ≡ ordered (tally self.now) self.now.place kind }
     {
         match kind {
-            HEAD if self.counts[HEAD as usize] == 0 => Ok(()),
-            HEAD => Err(CanFault::Misplaced(place)),
-            _ if self.counts[HEAD as usize] == 0 => Err(CanFault::Misplaced(place)),
-            RESUME..=FIRST if self.counts[kind as usize] > 0 => Err(CanFault::Twice(place)),
+            HEAD if self.count(HEAD) == 0 => Ok(()),
+            HEAD => Err(CanFault::Misplaced(self.place)),
+            _ if self.count(HEAD) == 0 => Err(CanFault::Misplaced(self.place)),
+            RESUME..=FIRST if self.count(kind) > 0 => Err(CanFault::Twice(self.place)),
             _ => Ok(()),
         }
     }
 
     // The record, if a stroke's table has room for it, and an end's number is that of the strokes so far.
-    fn admit(&self, record: Record, place: usize, room: Room) -> Result<Record, CanFault>
+    fn admit(&self, record: Record) -> Result<Record, CanFault>
         requires { tally self.now 2 + tally self.now 3 < 2 ^ 32 }
-        ensures { result ≡ admitted room (tally self.now) place «record» }
+        ensures { result ≡ admitted self.now.room (tally self.now) self.now.place «record» }
     {
+        let (tints, purges) = (self.count(TINT), self.count(PURGE));
         match record {
-            Record::Tint(_) if self.counts[TINT as usize] >= room.tints => Err(CanFault::Full(
-                place,
-            )),
-            Record::Purge(_) if self.counts[PURGE as usize] >= room.purges => Err(CanFault::Full(
-                place,
-            )),
-            Record::End(n)
-                if n as usize != self.counts[TINT as usize] + self.counts[PURGE as usize] => Err(
-                CanFault::Count(place),
-            ),
+            Record::Tint(_) if tints >= self.room.tints => Err(CanFault::Full(self.place)),
+            Record::Purge(_) if purges >= self.room.purges => Err(CanFault::Full(self.place)),
+            Record::End(n) if n as usize != tints + purges => Err(CanFault::Count(self.place)),
             _ => Ok(record),
         }
     }
 
-    // The record that stands at a place behind those seen so far, or its first fault.
-    pub fn next(&self, kind: u8, tail: &[u8], place: usize, room: Room) -> Result<Record, CanFault>
+    // The record that stands behind those seen so far, or its first fault.
+    pub fn next(&self, kind: u8, tail: &[u8]) -> Result<Record, CanFault>
         requires { tally self.now 2 + tally self.now 3 < 2 ^ 32 }
-        ensures { result ≡ stepped BODIES room (tally self.now) place kind tail.now }
+        ensures { result ≡ stepped BODIES self.now.room (tally self.now) self.now.place kind tail.now }
     {
-        let len = frame(kind, tail).map_err(|fault| (fault, place))?;
-        self.order(kind, place)?;
-        let record = content(kind, &tail[..len]).map_err(|fault| (fault, place))?;
-        self.admit(record, place, room)
+        let len = frame(kind, tail).map_err(|fault| (fault, self.place))?;
+        self.order(kind)?;
+        let record = content(kind, &tail[..len]).map_err(|fault| (fault, self.place))?;
+        self.admit(record)
     }
 }

@@ -24,15 +24,15 @@ fn judge(bytes: &[u8], room: Room) -> Result<Loaded, CanFault>
     if bytes.len() > LIMIT {
         return Err(CanFault::TooLong(LIMIT));
     }
-    let mut seen = Seen::new();
-    let mut at = 0;
-    while at < bytes.len() {
-        let record = seen.next(bytes[at], &bytes[at + 1..], at, room)?;
+    let mut seen = Seen::new(room);
+    let mut rest = bytes;
+    while let Some((&kind, tail)) = rest.split_first() {
+        let record = seen.next(kind, tail)?;
         seen.note(record);
-        at += 1 + body_len(record.kind()) as usize;
+        rest = &tail[body_len(kind) as usize..];
         if let Record::End(_) = record {
-            if at < bytes.len() {
-                return Err(CanFault::After(at));
+            if !rest.is_empty() {
+                return Err(CanFault::After(seen.place));
             }
             return Ok(seen.loaded());
         }

@@ -1,9 +1,9 @@
 // What the reader has seen of a ticket so far.
-ghost use Rattle.std.specs.Prelude.{◌≡◌, ◌+◌, ◌^◌, ◌<◌, slice_index};
+ghost use Rattle.std.specs.Prelude.{◌≡◌, ◌^◌, ◌<◌};
 ghost use Rattle.ticket.specs.Records.{kind};
-ghost use Rattle.ticket.specs.Reading.{nothing, noted, answered};
+ghost use Rattle.ticket.specs.Reading.{tally, nothing, noted, answered};
 
-use crate::kinds::{PURGE, TINT};
+use crate::kinds::{BODIES, PURGE, TINT, body_len};
 use crate::loaded::Loaded;
 use crate::record::Record;
 use cursor::stride::Stride;
@@ -15,50 +15,65 @@ pub struct Room {
     pub tints: usize,
 }
 
-// What the records so far say.
-#[derive(Clone, Copy)]
+// What the records so far say, and the room that they are loaded into.
+#[derive(Clone, Copy, Debug)]
 pub struct Seen {
+    pub room: Room,
+    // where the next record begins
+    pub place: usize,
     // how many there are of each kind
-    pub counts: [usize; 16],
-    pub can: u32,
-    pub size: u16,
-    pub resume: u64,
-    pub limit: u64,
-    pub stride: Stride,
-    pub first: u8,
+    counts: [usize; 16],
+    // what they say, but for the number of strokes, which is in the counts
+    said: Loaded,
 }
 
 impl Seen {
     // No record yet: each setting is what a ticket without it means.
-    pub fn new() -> Seen
-        ensures { result ≡ nothing }
+    pub fn new(room: Room) -> Seen
+        ensures { result ≡ nothing room }
     {
         Seen {
+            room,
+            place: 0,
             counts: [0; 16],
-            can: 0,
-            size: 0,
-            resume: 0,
-            limit: u64::MAX,
-            stride: Stride::one(),
-            first: 0,
+            said: Loaded {
+                purges: 0,
+                tints: 0,
+                can: 0,
+                size: 0,
+                resume: 0,
+                limit: u64::MAX,
+                stride: Stride::one(),
+                first: 0,
+            },
         }
+    }
+
+    // How many records there are of this kind.
+    pub fn count(&self, kind: u8) -> usize
+        requires { kind < 16 }
+        ensures { result ≡ tally self.now kind }
+    {
+        self.counts[kind as usize]
     }
 
     // One record more.
     pub fn note(&mut self, record: Record)
-        requires { slice_index self.old.counts (kind «record») < 2 ^ 32 }
-        ensures { self.new ≡ noted self.old «record» }
+        requires few { tally self.old (kind «record») < 2 ^ 32 }
+        requires near { self.old.place < 2 ^ 32 }
+        ensures { self.new ≡ noted BODIES self.old «record» }
     {
+        self.place += 1 + body_len(record.kind()) as usize;
         self.counts[record.kind() as usize] += 1;
         match record {
             Record::Head(can, size) => {
-                self.can = can;
-                self.size = size;
+                self.said.can = can;
+                self.said.size = size;
             }
-            Record::Resume(n) => self.resume = n,
-            Record::Limit(n) => self.limit = n,
-            Record::Every(stride) => self.stride = stride,
-            Record::First(n) => self.first = n,
+            Record::Resume(n) => self.said.resume = n,
+            Record::Limit(n) => self.said.limit = n,
+            Record::Every(stride) => self.said.stride = stride,
+            Record::First(n) => self.said.first = n,
             Record::Tint(_) | Record::Purge(_) | Record::End(_) => {}
         }
     }
@@ -67,14 +82,9 @@ impl Seen {
         ensures { result ≡ answered self }
     {
         Loaded {
-            purges: self.counts[PURGE as usize],
-            tints: self.counts[TINT as usize],
-            can: self.can,
-            size: self.size,
-            resume: self.resume,
-            limit: self.limit,
-            stride: self.stride,
-            first: self.first,
+            purges: self.count(PURGE),
+            tints: self.count(TINT),
+            ..self.said
         }
     }
 }
