@@ -1,17 +1,16 @@
 -- An answer that is true is the only one, so loading answers exactly so.
 use Rattle.std.proofs.Common.{◌≡◌, ℕ, ◌≤◌, List, length, Ok, Err, Result, sym, refl, ap, ◌∙◌, subst, arith}
-use Rattle.std.specs.List.{AllByRecursion}
 use Rattle.std.proofs.lemmas.Bool.{true≢false, false≢true}
 use Rattle.frame.specs.declared.stroke.Stroke.{Stroke}
 use Rattle.ticket.specs.declared.faults.CanFault.{CanFault}
 use Rattle.ticket.specs.declared.record.Record.{Record}
 use Rattle.ticket.specs.declared.loaded.Loaded.{Loaded}
-use Rattle.ticket.specs.Records.{written, Fits}
 use Rattle.ticket.specs.Lists.{Says}
 use Rattle.ticket.specs.Refusals.{Refuses}
-use Rattle.ticket.specs.Loading.{room_of, filled, Loading, Judged}
+use Rattle.ticket.specs.Loading.{room_of, over, Loading, Judged}
+use Rattle.ticket.specs.Reading.{strokes_in}
 use Rattle.ticket.proofs.Codes.{bodies, unique}
-use Rattle.ticket.proofs.Fills.{lawful_fits, lawful_room}
+use Rattle.ticket.proofs.Fills.{lawful_fits, lawful_room, over_is}
 use Rattle.ticket.proofs.Verdicts.{never, only}
 
 abbrev ok_l : Loaded → Result Loaded CanFault
@@ -40,20 +39,18 @@ within table bs ps ps' ts ts' l h =
 
 module _ (bs : List ℕ) (ps ts : List Stroke) where
   pub accepts : (ps' ts' : List Stroke) (l : Loaded) → Judged bodies (room_of ps ts) bs (Ok l)
-      → ((rs : List Record) → AllByRecursion Fits rs → written rs ≡ bs → (ps' ≡ filled 3 rs ps) × (ts' ≡ filled 2 rs ts)) → Loading bodies bs ps ps' ts ts' (Ok l)
-  accepts ps' ts' l j fill =
+      → ps' ≡ over (strokes_in bodies 3 bs) ps → ts' ≡ over (strokes_in bodies 2 bs) ts → Loading bodies bs ps ps' ts ts' (Ok l)
+  accepts ps' ts' l j p t =
       let room = room_of ps ts in
       record {
         lawful = λ _. (j.0, j.1, j.2);
         loads = λ rs law w.
-            let f = lawful_fits room rs law in
-            let t = fill rs f w in
             record {
               loaded = l;
               answers = refl;
-              purges = t.0;
-              tints = t.1;
-              says = subst (λ (z : List Record). Says z l) (unique j.0 rs (lawful_fits room j.0 j.1) f (j.2 ∙ sym w)) j.3;
+              purges = p ∙ over_is 3 refl room rs law bs w ps;
+              tints = t ∙ over_is 2 refl room rs law bs w ts;
+              says = subst (λ (z : List Record). Says z l) (unique j.0 rs (lawful_fits room j.0 j.1) (lawful_fits room rs law) (j.2 ∙ sym w)) j.3;
             };
         why = λ e h. absurd (ok_err h);
         when = λ e h. absurd (never room bs e j.0 h j.1 j.2);

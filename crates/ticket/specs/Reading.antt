@@ -1,6 +1,7 @@
 -- The reader's own steps: what its private functions answer. No public promise names them.
-use Rattle.std.specs.Prelude.{ℕ, zero, suc, ◌+◌, cond, not, ◌&&◌, List, take, drop, replicate, Ok, Err, Result, ◌==◌, slice_index, slice_set}
+use Rattle.std.specs.Prelude.{◌≡◌, ℕ, zero, suc, ◌+◌, cond, not, ◌&&◌, List, [], ◌∷◌, length, take, drop, replicate, Ok, Err, Result, ◌==◌, slice_index, slice_set}
 use Rattle.std.proofs.Common.{suc-le-suc, zero-le}
+use Rattle.std.specs.List.{AllByRecursion}
 use Rattle.std.specs.Int.Digits.{number_from_digits}
 use Rattle.cursor.specs.declared.stride.Stride.{Stride}
 use Rattle.cursor.specs.NonZero.{one_stride}
@@ -17,8 +18,8 @@ use Rattle.ticket.specs.declared.seen.Room.{Room}
 use Rattle.ticket.specs.declared.seen.Seen.{Seen}
 use Rattle.ticket.specs.Kinds.{body_in}
 use Rattle.ticket.specs.Numbers.{field_fault, record_fault, can_fault, map_err}
-use Rattle.ticket.specs.Records.{kind}
-use Rattle.ticket.specs.Lists.{can_of, says}
+use Rattle.ticket.specs.Records.{kind, written, Fits}
+use Rattle.ticket.specs.Lists.{can_of, says, keep}
 use Rattle.ticket.specs.Refusals.{unknown, cut, misplaced, twice, high, still, full}
 
 abbrev pub tally : Seen → ℕ → ℕ
@@ -35,6 +36,22 @@ number_in i w xs = number_from_digits 256 (take w (drop i xs))
 
 abbrev pub stroke_in : List ℕ → Stroke
 stroke_in xs = record { valve = slice_index xs 0; volume = number_in 1 2 xs }
+
+-- the strokes of kind k in the bytes of whole records, of which n are read at most
+abbrev pub strokes_within : List ℕ → ℕ → ℕ → List ℕ → List Stroke
+strokes_within table zero k bs = []
+strokes_within table (suc n) k [] = []
+strokes_within table (suc n) k (b ∷ bs) = keep (b == k) (stroke_in (take (body_in table b) bs)) (strokes_within table n k (drop (body_in table b) bs))
+
+unfoldable pub strokes_in : List ℕ → ℕ → List ℕ → List Stroke
+strokes_in table k bs = strokes_within table (length bs) k bs
+
+-- the bytes are those of whole records, and the records of kind k are strokes
+pub record Whole (table : List ℕ) (k : ℕ) (bs : List ℕ) : Type 0 where
+  pub rs : List Entry
+  pub fits : AllByRecursion Fits rs
+  pub bytes : written rs ≡ bs
+  pub strokes : body_in table k ≡ 3
 
 -- a stride in a body that does not hold 0
 abbrev pub stride_in : ℕ → Stride

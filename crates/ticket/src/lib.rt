@@ -9,3 +9,4 @@ pub mod loaded;
 pub mod loading;
 pub mod record;
 mod seen;
+mod strokes;

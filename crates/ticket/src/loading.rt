@@ -1,17 +1,16 @@
 // Loads a ticket entire, or refuses it and leaves everything as it was.
-ghost use Rattle.std.specs.Prelude.{◌≡◌, List};
-ghost use Rattle.ticket.specs.declared.record.Record.{Record};
-ghost use Rattle.std.specs.List.{AllByRecursion};
-ghost use Rattle.ticket.specs.Records.{written, Fits, Unambiguous};
+ghost use Rattle.std.specs.Prelude.{◌≡◌, ◌≤◌, length};
+ghost use Rattle.ticket.specs.Records.{Unambiguous};
 ghost use Rattle.ticket.specs.Samples.{Samples};
-ghost use Rattle.ticket.specs.Loading.{room_of, filled, Spells, Loading, Judged};
+ghost use Rattle.ticket.specs.Reading.{strokes_in, Whole};
+ghost use Rattle.ticket.specs.Loading.{over, Loading, Judged};
 
-use crate::checks::stroke;
 use crate::faults::CanFault;
 use crate::kinds::{BODIES, PURGE, TINT, body_len};
 use crate::loaded::Loaded;
 use crate::record::Record;
 use crate::seen::{Room, Seen};
+use crate::strokes::Strokes;
 use frame::stroke::Stroke;
 
 // A ticket has at most so many bytes.
@@ -40,31 +39,18 @@ fn judge(bytes: &[u8], room: Room) -> Result<Loaded, CanFault>
     Err(CanFault::NoEnd(bytes.len()))
 }
 
-// Writes the strokes of a lawful ticket to the tables.
-fn fill(bytes: &[u8], purges: &mut [Stroke], tints: &mut [Stroke])
-    requires { Spells (room_of purges.old tints.old) bytes.now }
-    ensures { (rs : List Record) → AllByRecursion Fits rs → written rs ≡ bytes.now
-        → (purges.new ≡ filled 3 rs purges.old) × (tints.new ≡ filled 2 rs tints.old) }
+// Writes the strokes of one kind of a lawful ticket to the start of their table.
+fn fill(kind: u8, bytes: &[u8], table: &mut [Stroke])
+    requires whole { Whole BODIES kind bytes.now }
+    requires room { length (strokes_in BODIES kind bytes.now) ≤ length table.old }
+    ensures { table.new ≡ over (strokes_in BODIES kind bytes.now) table.old }
 {
-    let mut at = 0;
-    let mut p: usize = 0;
-    let mut t: usize = 0;
-    while at < bytes.len() {
-        let kind = bytes[at];
-        let len = body_len(kind) as usize;
-        let body = &bytes[at + 1..at + 1 + len];
-        match kind {
-            TINT => {
-                tints[t] = stroke(body);
-                t += 1;
-            }
-            PURGE => {
-                purges[p] = stroke(body);
-                p += 1;
-            }
-            _ => {}
-        }
-        at += 1 + len;
+    let mut strokes = Strokes { kind, rest: bytes };
+    for entry in table {
+        let Some(stroke) = strokes.next() else {
+            break;
+        };
+        *entry = stroke;
     }
 }
 
@@ -74,14 +60,13 @@ pub fn load(bytes: &[u8], purges: &mut [Stroke], tints: &mut [Stroke]) -> Result
     ensures { Loading BODIES bytes.now
         purges.old purges.new tints.old tints.new result }
 {
-    let loaded = judge(
-        bytes,
-        Room {
-            purges: purges.len(),
-            tints: tints.len(),
-        },
-    )?;
-    fill(bytes, purges, tints);
+    let room = Room {
+        purges: purges.len(),
+        tints: tints.len(),
+    };
+    let loaded = judge(bytes, room)?;
+    fill(PURGE, bytes, purges);
+    fill(TINT, bytes, tints);
     Ok(loaded)
 }
 

@@ -1,9 +1,7 @@
-use Rattle.std.proofs.Common.{◌-◌, length}
+use Rattle.ticket.specs.Reading.{strokes_in}
+use Rattle.ticket.proofs.Codes.{bodies}
 use Rattle.ticket.proofs.Fills.{Filling}
 use Rattle.ticket.proofs.loading.fill.Given as goal
 
-abbrev pub invariant-loop-at : goal.invariant-loop-at
-invariant-loop-at l = Filling l.bytes l.initial.purges l.initial.tints l.at l.p l.t l.purges l.tints
-
-abbrev pub decreases-loop-at : goal.decreases-loop-at
-decreases-loop-at l = length l.bytes - l.at
+abbrev pub invariant-loop-entry : goal.invariant-loop-entry
+invariant-loop-entry l = Filling (strokes_in bodies l.kind l.bytes) (strokes_in bodies l.strokes.kind l.strokes.rest.now) l.fn.table l.entry-items l.entry-index

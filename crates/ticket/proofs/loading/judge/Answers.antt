@@ -1,15 +1,11 @@
-use Rattle.std.proofs.Common.{sym, ap, ◌∙◌, subst, inr, arith}
+use Rattle.std.proofs.Common.{sym, ap, subst, inr, arith}
 use Rattle.std.proofs.lemmas.List.{take_rest}
 use Rattle.std.proofs.lemmas.Bool.Decides.{nat_tests}
 use Rattle.std.proofs.lemmas.Result.{err_from_is_err_and}
-use Rattle.ticket.specs.Lists.{Says}
-use Rattle.ticket.specs.Reading.{answered}
-use Rattle.ticket.specs.Refusals.{Broken}
 use Rattle.ticket.specs.Records.{kind}
-use Rattle.ticket.specs.Numbers.{can_fault}
 use Rattle.ticket.proofs.Bytes.{bytes_under}
-use Rattle.ticket.proofs.Codes.{bodies, end_of}
-use Rattle.ticket.proofs.Turns.{Sofar, sofar_none, small, no_end, stops, goes, spills, ends}
+use Rattle.ticket.proofs.Codes.{end_of}
+use Rattle.ticket.proofs.Turns.{Sofar, sofar_none, small, stops, goes, spills, ends}
 use Rattle.ticket.proofs.loading.judge.Goals as goal
 
 pub loop-kind-init : goal.loop-kind-init

@@ -1,4 +1,4 @@
-use Rattle.std.proofs.Common.{sym, ◌∙◌, arith}
+use Rattle.std.proofs.Common.{sym, ◌∙◌}
 use Rattle.ticket.specs.Reading.{tally}
 use Rattle.ticket.proofs.Codes.{bodies}
 use Rattle.ticket.proofs.Steps.{passes, before_map}
