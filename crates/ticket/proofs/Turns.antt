@@ -32,23 +32,25 @@ pub record Sofar (room : Room) (bs ys : List ℕ) (s : Seen) : Type 0 where
   pub place : s.place ≡ length (written rs)
   pub tables : s.room ≡ room
   pub holds : Holds s rs
+  pub short : length bs ≤ 32768
+  pub under : AllBelowBase 256 bs
 
-pub sofar_none : (room : Room) (bs : List ℕ) → Sofar room bs bs (nothing room)
-sofar_none room bs = record { rs = []; right = right_none room; bytes = refl; place = refl; tables = refl; holds = holds_none room }
+pub sofar_none : (room : Room) (bs : List ℕ) → length bs ≤ 32768 → AllBelowBase 256 bs → Sofar room bs bs (nothing room)
+sofar_none room bs l u = record { rs = []; right = right_none room; bytes = refl; place = refl; tables = refl; holds = holds_none room; short = l; under = u }
 
 module _ (room : Room) (bs ys : List ℕ) (s : Seen) (f : Sofar room bs ys s) where
   pub lengths : s.place + length ys ≡ length bs
   lengths = omega (arith, f.place, ap length f.bytes, length-append (written f.rs) ys)
 
-  pub small : length bs ≤ 32768 → (k : ℕ) → tally s k ≤ 32768
-  small l k = omega (arith, f.holds.counts k, count_le k f.rs, f.place, lengths)
+  pub small : (k : ℕ) → tally s k ≤ 32768
+  small k = omega (arith, f.holds.counts k, count_le k f.rs, f.place, f.short, lengths)
 
   counting : tally s ≡ (λ k. count k f.rs)
   counting = fun_ext f.holds.counts
 
-  broken : length bs ≤ 32768 → (e : CanFault) → wrong bodies room (tally s) s.place ys ≡ Some e → Broken bodies room bs e
-  broken l e w = record {
-    short = l;
+  broken : (e : CanFault) → wrong bodies room (tally s) s.place ys ≡ Some e → Broken bodies room bs e
+  broken e w = record {
+    short = f.short;
     rs = f.rs;
     ys = ys;
     right = f.right;
@@ -56,18 +58,11 @@ module _ (room : Room) (bs ys : List ℕ) (s : Seen) (f : Sofar room bs ys s) wh
     wrong = sym (ap₂ (λ (c : ℕ → ℕ) (p : ℕ). wrong bodies room c p ys) counting f.place) ∙ w;
   }
 
-  -- the ticket ends with no end
-  pub no_end : length bs ≤ 32768 → length ys ≡ 0 → Broken bodies room bs (can_fault 11 (length bs))
-  no_end l h =
-      let e : ys ≡ [] = nil_from_length ys h in
-      let p : s.place ≡ length bs = omega (arith, lengths) in
-      broken l (can_fault 11 (length bs)) (ap (wrong bodies room (tally s) s.place) e ∙ ap (λ (p : ℕ). Some (can_fault 11 p)) p)
-
-  module _ (u : AllBelowBase 256 bs) (l : length bs ≤ 32768) (k : ℕ) (zs : List ℕ) (here : ys ≡ k ∷ zs) where
+  module _ (k : ℕ) (zs : List ℕ) (here : ys ≡ k ∷ zs) where
     bytes_here : AllBelowBase 256 ys
     bytes_here =
         subst (AllBelowBase 256) (ap (drop (length (written f.rs))) f.bytes ∙ drop_at (written f.rs) ys (length (written f.rs)) refl)
-        (All-drop (λ d. d < 256) (length (written f.rs)) bs u)
+        (All-drop (λ d. d < 256) (length (written f.rs)) bs f.under)
 
     -- what is left behind the record here
     abbrev pub rest : List ℕ
@@ -88,7 +83,7 @@ module _ (room : Room) (bs ys : List ℕ) (s : Seen) (f : Sofar room bs ys s) wh
 
     -- a fault of the record here
     pub stops : (e : CanFault) → Answers (Err e) → Broken bodies room bs e
-    stops e q = broken l e (ap (wrong bodies room (tally s) s.place) here ∙ told_here (Err e) q (behind ∷ []))
+    stops e q = broken e (ap (wrong bodies room (tally s) s.place) here ∙ told_here (Err e) q (behind ∷ []))
 
     module _ (r : Record) (q : Answers (Ok r)) where
       abbrev pub on : Seen
@@ -131,14 +126,14 @@ module _ (room : Room) (bs ys : List ℕ) (s : Seen) (f : Sofar room bs ys s) wh
 
       -- one record more
       pub goes : kind r ≢ 15 → Sofar room bs rest on
-      goes n = record { rs = f.rs ++ (r ∷ []); right = right_push room f.rs r f.right stands n; bytes = bytes_on; place = place_on; tables = f.tables; holds = holds_push s f.rs r f.holds }
+      goes n = record { rs = f.rs ++ (r ∷ []); right = right_push room f.rs r f.right stands n; bytes = bytes_on; place = place_on; tables = f.tables; holds = holds_push s f.rs r f.holds; short = f.short; under = f.under }
 
       -- bytes after the end
       pub spills : kind r ≡ 15 → 0 < length rest → Broken bodies room bs (can_fault 10 on.place)
       spills e n =
           let t : followed bodies k zs ≡ true =
           ap (λ (j : ℕ). followed bodies j zs) (kind_here ∙ e) ∙ lt-ltb 2 (length zs) (omega (arith, n, length-drop (body_in bodies k) zs, ap (body_in bodies) (kind_here ∙ e))) in
-          broken l (can_fault 10 on.place)
+          broken (can_fault 10 on.place)
           (ap (wrong bodies room (tally s) s.place) here ∙ (skip here_faults (behind ∷ []) passed.off
           ∙ (ap (λ (b : Bool). cond b (Some behind.1) None) t ∙ ap (λ (p : ℕ). Some (can_fault 10 p)) next_is)))
 

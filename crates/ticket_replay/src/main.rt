@@ -3,9 +3,14 @@
 
 #![tactic(auto)]
 
+ghost use Rattle.std.specs.Prelude.{length};
+ghost use Rattle.std.specs.Iterator.{at_most};
+
+use byteorder::{BigEndian, ByteOrder};
 use frame::stroke::Stroke;
+use refusal::Refusal;
+use std::io::Print;
 use std::{fs, io};
-use ticket::faults::CanFault;
 use ticket::loaded::Loaded;
 use ticket::loading::load;
 
@@ -13,6 +18,38 @@ const TABLE_ENTRIES: usize = 8192;
 
 // Before a case: six bytes, the entries of the two tables and the ticket's length.
 const CASE_HEAD: usize = 6;
+
+// A ticket, and how many entries of the tables it is loaded into.
+#[derive(Clone, Copy)]
+struct Case<'a> {
+    ticket: &'a [u8],
+    purge_entries: usize,
+    tint_entries: usize,
+}
+
+// The cases that stand in these bytes, one behind the other.
+#[derive(Drop)]
+struct Cases<'a> {
+    rest: &'a [u8],
+}
+
+impl<'a> Iterator for Cases<'a> {
+    type Item = Case<'a>;
+
+    ghost remaining = { λ s. at_most (length s.rest.now) };
+
+    fn next(&mut self) -> Option<Case<'a>> {
+        let (head, rest) = self.rest.split_at_checked(CASE_HEAD)?;
+        let len = BigEndian::read_u16(&head[4..]) as usize;
+        let (ticket, rest) = rest.split_at_checked(len)?;
+        self.rest = rest;
+        Some(Case {
+            ticket,
+            purge_entries: BigEndian::read_u16(head) as usize,
+            tint_entries: BigEndian::read_u16(&head[2..]) as usize,
+        })
+    }
+}
 
 // What entry i of a table holds before a ticket is loaded: no ticket has such a valve.
 fn mark(i: usize) -> Stroke {
@@ -29,101 +66,77 @@ fn reset(table: &mut [Stroke]) {
 }
 
 // Whether all entries from `start` on are as `reset` left them.
-fn kept(table: &[Stroke], start: usize) -> bool {
-    for (i, entry) in table.iter().enumerate() {
-        if i >= start && *entry != mark(i) {
-            return false;
-        }
-    }
-    true
+fn is_kept(table: &[Stroke], start: usize) -> bool {
+    table
+        .iter()
+        .enumerate()
+        .skip(start)
+        .all(|(i, entry)| *entry == mark(i))
 }
 
 // A number that tells the first `count` strokes of a table and their order.
 fn hash(table: &[Stroke], count: usize) -> u64 {
-    let mut h = 0u64;
-    for stroke in table.iter().take(count) {
-        let entry = u64::from(stroke.valve)
-            .wrapping_mul(65536)
-            .wrapping_add(u64::from(stroke.volume));
-        h = h.wrapping_mul(31).wrapping_add(entry);
-    }
-    h
+    table.iter().take(count).fold(0u64, |hash, stroke| {
+        let entry = u64::from(stroke.valve) * 65536 + u64::from(stroke.volume);
+        hash.wrapping_mul(31).wrapping_add(entry)
+    })
 }
 
-fn show_loaded(
-    rt: &HostRuntime,
-    loaded: &Loaded,
-    purges: &[Stroke],
-    tints: &[Stroke],
-) -> io::Result<()> {
-    let can = loaded.can;
-    let size = loaded.size;
-    let resume = loaded.resume;
-    let limit = loaded.limit;
-    let stride = loaded.stride.get();
-    let first = loaded.first;
-    let purge_count = loaded.purges;
-    let purge_hash = hash(purges, purge_count);
-    let tint_count = loaded.tints;
-    let tint_hash = hash(tints, tint_count);
-    let later = if kept(purges, purge_count) && kept(tints, tint_count) {
-        "kept"
-    } else {
-        "changed"
-    };
-    print!(rt;
-        "loaded can {can} size {size} resume {resume} limit {limit} stride {stride} first {first} "
-    )?;
-    println!(rt;
-        "purges {purge_count} hash {purge_hash} tints {tint_count} hash {tint_hash}, later entries {later}"
-    )
+// The two tables that a ticket is loaded into.
+#[derive(Drop)]
+struct Tables<'a> {
+    purges: &'a mut [Stroke],
+    tints: &'a mut [Stroke],
 }
 
-fn show_refused(
-    rt: &HostRuntime,
-    fault: CanFault,
-    purges: &[Stroke],
-    tints: &[Stroke],
-) -> io::Result<()> {
-    let number = fault.number();
-    let place = fault.place();
-    let tables = if kept(purges, 0) && kept(tints, 0) {
-        "kept"
-    } else {
-        "changed"
-    };
-    println!(rt; "refused {number} at {place}, tables {tables}")
-}
-
-// A ticket, and how many entries of the tables it is loaded into.
-#[derive(Clone, Copy)]
-struct Case<'a> {
-    ticket: &'a [u8],
-    purge_entries: usize,
-    tint_entries: usize,
-}
-
-// Loads one ticket and prints the answer; true if it was loaded.
-fn replay(
-    rt: &HostRuntime,
-    case: &Case,
-    purges: &mut [Stroke],
-    tints: &mut [Stroke],
-) -> io::Result<bool> {
-    let purge_entries = case.purge_entries.min(purges.len());
-    let tint_entries = case.tint_entries.min(tints.len());
-    let purges = &mut purges[0..purge_entries];
-    let tints = &mut tints[0..tint_entries];
-    reset(purges);
-    reset(tints);
-    match load(case.ticket, purges, tints) {
-        Ok(loaded) => {
-            show_loaded(rt, &loaded, purges, tints)?;
-            Ok(true)
+impl Tables<'_> {
+    // Loads one ticket and prints the answer; true if it was loaded.
+    fn replay(&mut self, rt: &impl Print, ticket: &[u8]) -> io::Result<bool> {
+        reset(self.purges);
+        reset(self.tints);
+        match load(ticket, self.purges, self.tints) {
+            Ok(loaded) => {
+                self.show_loaded(rt, &loaded)?;
+                Ok(true)
+            }
+            Err(fault) => {
+                let tables = self.later(0, 0);
+                println!(rt;
+                    "refused {} at {}, tables {tables}",
+                    fault.number(),
+                    fault.place()
+                )?;
+                Ok(false)
+            }
         }
-        Err(fault) => {
-            show_refused(rt, fault, purges, tints)?;
-            Ok(false)
+    }
+
+    fn show_loaded(&self, rt: &impl Print, loaded: &Loaded) -> io::Result<()> {
+        print!(rt;
+            "loaded can {} size {} resume {} limit {} stride {} first {} ",
+            loaded.can,
+            loaded.size,
+            loaded.resume,
+            loaded.limit,
+            loaded.stride.get(),
+            loaded.first
+        )?;
+        println!(rt;
+            "purges {} hash {} tints {} hash {}, later entries {}",
+            loaded.purges,
+            hash(self.purges, loaded.purges),
+            loaded.tints,
+            hash(self.tints, loaded.tints),
+            self.later(loaded.purges, loaded.tints)
+        )
+    }
+
+    // What became of the entries behind the first ones of each table.
+    fn later(&self, purges: usize, tints: usize) -> &'static str {
+        if is_kept(self.purges, purges) && is_kept(self.tints, tints) {
+            "kept"
+        } else {
+            "changed"
         }
     }
 }
@@ -132,27 +145,18 @@ fn main(rt: HostRuntime) -> io::Result<()> {
     let list = fs::read(&rt, "tickets.bin")?;
     let mut purges = [mark(0); TABLE_ENTRIES];
     let mut tints = [mark(0); TABLE_ENTRIES];
-    let mut rest = list.as_slice();
     let mut loaded = 0u64;
     let mut refused = 0u64;
-    while rest.len() >= CASE_HEAD {
-        let purge_entries = u16::from_be_bytes([rest[0], rest[1]]) as usize;
-        let tint_entries = u16::from_be_bytes([rest[2], rest[3]]) as usize;
-        let len = u16::from_be_bytes([rest[4], rest[5]]) as usize;
-        if rest.len() - CASE_HEAD < len {
-            break;
-        }
-        let case = Case {
-            ticket: &rest[CASE_HEAD..CASE_HEAD + len],
-            purge_entries,
-            tint_entries,
+    for case in (Cases { rest: &list }) {
+        let mut tables = Tables {
+            purges: &mut purges[..case.purge_entries.min(TABLE_ENTRIES)],
+            tints: &mut tints[..case.tint_entries.min(TABLE_ENTRIES)],
         };
-        if replay(&rt, &case, &mut purges, &mut tints)? {
+        if tables.replay(&rt, case.ticket)? {
             loaded = loaded.saturating_add(1);
         } else {
             refused = refused.saturating_add(1);
         }
-        rest = &rest[CASE_HEAD + len..];
     }
     let cases = loaded.saturating_add(refused);
     println!(rt; "{cases} tickets: {loaded} loaded, {refused} refused")

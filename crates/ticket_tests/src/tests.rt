@@ -1,4 +1,5 @@
 use frame::stroke::Stroke;
+use refusal::Refusal;
 use std::test::Fail;
 use ticket::faults::{CanFault, FieldFault, RecordFault};
 use ticket::loading::load;
@@ -48,51 +49,40 @@ const REFUSED: [(&[u8], u8, usize); 20] = [
     (b"\x01\x00\x00\x00\x07\x03\xE8\x0F\x00\x01\x09", 9, 7),
 ];
 
-fn fault_of(bytes: &[u8], purges: &mut [Stroke], tints: &mut [Stroke]) -> Option<CanFault> {
-    match load(bytes, purges, tints) {
-        Ok(_) => None,
-        Err(fault) => Some(fault),
-    }
-}
-
 #[test]
 fn sample_loads(rt: HostRuntime) -> Result<(), Fail> {
     let mut purges = [NONE; 2];
     let mut tints = [NONE; 3];
-    match load(SAMPLE, &mut purges, &mut tints) {
-        Ok(loaded) => {
-            assert_eq!(rt; (loaded.can, loaded.size), (7, 1000));
-            assert_eq!(rt; (loaded.purges, loaded.tints), (1, 2));
-            assert_eq!(rt; (loaded.resume, loaded.limit), (0, u64::MAX));
-            assert_eq!(rt; (loaded.stride.get(), loaded.first), (2, 0));
-            assert_eq!(rt;
-                purges,
-                [
-                    Stroke {
-                        valve: 5,
-                        volume: 10,
-                    },
-                    NONE,
-                ]
-            );
-            assert_eq!(rt;
-                tints,
-                [
-                    Stroke {
-                        valve: 1,
-                        volume: 100,
-                    },
-                    Stroke {
-                        valve: 2,
-                        volume: 200,
-                    },
-                    NONE,
-                ]
-            );
-            Ok(())
-        }
-        Err(_) => Err(Fail::new("the sample is refused")),
-    }
+    let loaded = load(SAMPLE, &mut purges, &mut tints)?;
+    assert_eq!(rt; (loaded.can, loaded.size), (7, 1000));
+    assert_eq!(rt; (loaded.purges, loaded.tints), (1, 2));
+    assert_eq!(rt; (loaded.resume, loaded.limit), (0, u64::MAX));
+    assert_eq!(rt; (loaded.stride.get(), loaded.first), (2, 0));
+    assert_eq!(rt;
+        purges,
+        [
+            Stroke {
+                valve: 5,
+                volume: 10,
+            },
+            NONE,
+        ]
+    );
+    assert_eq!(rt;
+        tints,
+        [
+            Stroke {
+                valve: 1,
+                volume: 100,
+            },
+            Stroke {
+                valve: 2,
+                volume: 200,
+            },
+            NONE,
+        ]
+    );
+    Ok(())
 }
 
 #[test]
@@ -100,10 +90,8 @@ fn refusals(rt: HostRuntime) -> Result<(), Fail> {
     for (ticket, number, place) in REFUSED {
         let mut purges = [NONE; 2];
         let mut tints = [NONE; 2];
-        match fault_of(ticket, &mut purges, &mut tints) {
-            None => return Err(Fail::new("loaded")),
-            Some(fault) => assert_eq!(rt; (fault.number(), fault.place()), (number, place)),
-        }
+        let fault = load(ticket, &mut purges, &mut tints).err().ok_or("loaded")?;
+        assert_eq!(rt; (fault.number(), fault.place()), (number, place));
         assert_eq!(rt; (purges, tints), ([NONE; 2], [NONE; 2]));
     }
     Ok(())
@@ -112,7 +100,7 @@ fn refusals(rt: HostRuntime) -> Result<(), Fail> {
 #[test]
 fn layers_are_held_whole(rt: HostRuntime) {
     let ticket = b"\x01\x00\x00\x00\x07\x03\xE8\x02\x10\x00\x00";
-    let fault = fault_of(ticket, &mut [NONE; 2], &mut [NONE; 2]);
+    let fault = load(ticket, &mut [NONE; 2], &mut [NONE; 2]).err();
     assert_eq!(rt;
         fault,
         Some(CanFault::Record(RecordFault::Field(FieldFault::High), 7))
@@ -122,13 +110,13 @@ fn layers_are_held_whole(rt: HostRuntime) {
 // A table that is exactly full is fine; one stroke more gets 8.
 #[test]
 fn full_tables(rt: HostRuntime) {
-    assert_eq!(rt; fault_of(SAMPLE, &mut [NONE; 1], &mut [NONE; 2]), None);
+    assert_eq!(rt; load(SAMPLE, &mut [NONE; 1], &mut [NONE; 2]).err(), None);
     assert_eq!(rt;
-        fault_of(SAMPLE, &mut [NONE; 0], &mut [NONE; 2]),
+        load(SAMPLE, &mut [NONE; 0], &mut [NONE; 2]).err(),
         Some(CanFault::Full(7))
     );
     assert_eq!(rt;
-        fault_of(SAMPLE, &mut [NONE; 1], &mut [NONE; 1]),
+        load(SAMPLE, &mut [NONE; 1], &mut [NONE; 1]).err(),
         Some(CanFault::Full(15))
     );
 }
@@ -138,11 +126,11 @@ fn full_tables(rt: HostRuntime) {
 fn lengths(rt: HostRuntime) {
     let zeros = [0; 32769];
     assert_eq!(rt;
-        fault_of(&zeros[0..32768], &mut [NONE; 1], &mut [NONE; 1]),
+        load(&zeros[..32768], &mut [NONE; 1], &mut [NONE; 1]).err(),
         Some(CanFault::Record(RecordFault::Unknown, 0))
     );
     assert_eq!(rt;
-        fault_of(&zeros, &mut [NONE; 1], &mut [NONE; 1]),
+        load(&zeros, &mut [NONE; 1], &mut [NONE; 1]).err(),
         Some(CanFault::TooLong(32768))
     );
 }
@@ -151,13 +139,10 @@ fn lengths(rt: HostRuntime) {
 #[test]
 fn every_cut(rt: HostRuntime) -> Result<(), Fail> {
     for n in 0..SAMPLE.len() {
-        match fault_of(&SAMPLE[0..n], &mut [NONE; 1], &mut [NONE; 2]) {
-            None => return Err(Fail::new("loaded")),
-            Some(fault) => {
-                let number = fault.number();
-                assert!(rt; number == 4 || number == 11);
-            }
-        }
+        let fault = load(&SAMPLE[..n], &mut [NONE; 1], &mut [NONE; 2])
+            .err()
+            .ok_or("loaded")?;
+        assert!(rt; matches!(fault.number(), 4 | 11));
     }
     Ok(())
 }

@@ -1,7 +1,9 @@
 // What a ticket holds, and why it is refused, in plain words.
 use frame::stroke::Stroke;
+use refusal::Refusal;
+use std::io::Print;
 use std::{fmt, io};
-use ticket::faults::{CanFault, FieldFault, RecordFault};
+use ticket::faults::{CanFault, RecordFault};
 use ticket::loaded::Loaded;
 
 // A volume in hundredths of a ml, shown in ml.
@@ -10,46 +12,35 @@ struct Ml(u16);
 
 impl fmt::Display for Ml {
     fn fmt<W: fmt::Write>(&self, f: &mut fmt::Formatter<W>) -> fmt::Result {
-        let whole = self.0 / 100;
-        let part = self.0 % 100;
-        write!(f, "{whole}.{part:02} ml")
+        write!(f, "{}.{:02} ml", self.0 / 100, self.0 % 100)
     }
 }
 
-pub(crate) fn show_settings(rt: &HostRuntime, loaded: &Loaded) -> io::Result<()> {
-    let can = loaded.can;
-    let size = loaded.size;
-    let resume = loaded.resume;
-    let limit = loaded.limit;
-    let stride = loaded.stride.get();
-    let first = loaded.first;
-    println!(rt; "Can {can}, {size} ml.")?;
-    println!(rt; "Resume: strokes left out at the start: {resume}.")?;
-    println!(rt; "Limit: strokes poured at most: {limit}.")?;
-    println!(rt; "Label stride: {stride}.")?;
-    println!(rt; "First canister to stir: {first}.")
+pub(crate) fn show_settings(rt: &impl Print, loaded: &Loaded) -> io::Result<()> {
+    println!(rt; "Can {}, {} ml.", loaded.can, loaded.size)?;
+    println!(rt; "Resume: strokes left out at the start: {}.", loaded.resume)?;
+    println!(rt; "Limit: strokes poured at most: {}.", loaded.limit)?;
+    println!(rt; "Label stride: {}.", loaded.stride.get())?;
+    println!(rt; "First canister to stir: {}.", loaded.first)
 }
 
 // One table's strokes, in ticket order.
-pub(crate) fn show_strokes(rt: &HostRuntime, title: &str, strokes: &[Stroke]) -> io::Result<()> {
-    let count = strokes.len();
-    println!(rt; "{title}: {count}.")?;
+pub(crate) fn show_strokes(rt: &impl Print, title: &str, strokes: &[Stroke]) -> io::Result<()> {
+    println!(rt; "{title}: {}.", strokes.len())?;
     for stroke in strokes {
-        let canister = stroke.valve;
-        let volume = Ml(stroke.volume);
-        println!(rt; "  canister {canister}, {volume}")?;
+        println!(rt; "  canister {}, {}", stroke.valve, Ml(stroke.volume))?;
     }
     Ok(())
 }
 
-pub(crate) fn show_refusal(rt: &HostRuntime, fault: CanFault) -> io::Result<()> {
-    let number = fault.number();
-    let place = fault.place();
-    let layers = layers(fault);
-    let meaning = meaning(fault);
-    println!(rt; "Refused with {number} at byte {place}.")?;
-    println!(rt; "Layers: {layers}.")?;
-    println!(rt; "{meaning}.")
+pub(crate) fn show_refusal(rt: &impl Print, fault: CanFault) -> io::Result<()> {
+    println!(rt;
+        "Refused with {} at byte {}.",
+        fault.number(),
+        fault.place()
+    )?;
+    println!(rt; "Layers: {}.", layers(fault))?;
+    println!(rt; "{fault}.")
 }
 
 // The layers that a fault goes through, the outermost first.
@@ -58,23 +49,5 @@ fn layers(fault: CanFault) -> &'static str {
         CanFault::Record(RecordFault::Field(_), _) => "can, record, field",
         CanFault::Record(_, _) => "can, record",
         _ => "can",
-    }
-}
-
-fn meaning(fault: CanFault) -> &'static str {
-    match fault {
-        CanFault::TooLong(_) => "A ticket has at most 32768 bytes",
-        CanFault::Misplaced(_) => "The first record is not a head, or a later one is",
-        CanFault::Twice(_) => "A setting stands a second time",
-        CanFault::Full(_) => "The stroke's table has no free entry",
-        CanFault::Count(_) => "The end's number is not the number of strokes before it",
-        CanFault::After(_) => "There are bytes after the end record",
-        CanFault::NoEnd(_) => "There is no end record",
-        CanFault::Record(RecordFault::Unknown, _) => "No record has this kind",
-        CanFault::Record(RecordFault::Cut, _) =>
-            "The record's body runs past the end of the ticket",
-        CanFault::Record(RecordFault::Field(FieldFault::ZeroStride), _) => "The label stride is 0",
-        CanFault::Record(RecordFault::Field(FieldFault::High), _) =>
-            "A valve or canister is above 15",
     }
 }
