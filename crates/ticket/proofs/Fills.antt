@@ -1,7 +1,8 @@
 -- The strokes of a lawful ticket, as they are read and written to the tables.
 use Rattle.std.proofs.Common.{◌≡◌, ℕ, zero, suc, ◌+◌, ◌≤◌, Bool, true, false, cond, eqb, ◌≢◌, slice_index, List, [], ◌∷◌, ◌++◌, length, take, drop, set, sym, refl, ap, ◌∙◌, subst, ap₂, zero-add, add-one, arith, length-append, length-drop, length-set, take_at, drop_at}
 use lib.Seq.{sets, sets-eq}
-use Rattle.std.specs.List.{AllByRecursion}
+use Rattle.std.specs.List.{AllByRecursion, filter}
+use mathlib.Core.List.{map}
 use Rattle.std.proofs.ByRecursion.{All-push}
 use Rattle.std.proofs.lemmas.List.{nil_from_length}
 use Rattle.std.proofs.lemmas.Bool.{eq-eqb, eqb-true, ne_eqb}
@@ -11,20 +12,31 @@ use Rattle.ticket.specs.declared.record.Record.TheVariants.{Head, Tint, Purge, R
 use Rattle.ticket.specs.declared.seen.Room.{Room}
 use Rattle.ticket.specs.Kinds.{body_in}
 use Rattle.ticket.specs.Records.{kind, body, written, Fits}
-use Rattle.ticket.specs.Lists.{stroke, is, count, keep, strokes, Lawful}
+use Rattle.ticket.specs.Lists.{stroke, is, count, strokes, Lawful}
 use Rattle.ticket.specs.Loading.{over, filled}
 use Rattle.ticket.specs.Reading.{stroke_in, strokes_within, strokes_in, Whole}
 use Rattle.ticket.proofs.Codes.{bodies, body_length, decode}
 use Rattle.ticket.proofs.Rights.{count_append}
 use Rattle.ticket.proofs.Verdicts.{end_fits}
 
+-- a stroke before others, or only those
+abbrev keep : Bool → Stroke → List Stroke → List Stroke
+keep b x xs = cond b (x ∷ xs) xs
+
 keep_length : (b : Bool) (x : Stroke) (xs : List Stroke) → length (keep b x xs) ≡ cond b 1 0 + length xs
 keep_length true x xs = omega arith
 keep_length false x xs = omega arith
 
+keep_map : (b : Bool) (r : Record) (rs : List Record) → map stroke (cond b (r ∷ rs) rs) ≡ keep b (stroke r) (map stroke rs)
+keep_map true r rs = refl
+keep_map false r rs = refl
+
+strokes-cons : (k : ℕ) (r : Record) (rs : List Record) → strokes k (r ∷ rs) ≡ keep (eqb (kind r) k) (stroke r) (strokes k rs)
+strokes-cons k r rs = keep_map (eqb (kind r) k) r (filter (λ q. eqb (kind q) k) rs)
+
 pub strokes_length : (k : ℕ) (rs : List Record) → length (strokes k rs) ≡ count k rs
 strokes_length k [] = refl
-strokes_length k (r ∷ rs) = omega (arith, keep_length (eqb (kind r) k) (stroke r) (strokes k rs), strokes_length k rs)
+strokes_length k (r ∷ rs) = omega (arith, ap length (strokes-cons k r rs), keep_length (eqb (kind r) k) (stroke r) (strokes k rs), strokes_length k rs)
 
 is_by : (k : ℕ) (r : Record) (b : Bool) → eqb (kind r) k ≡ b → is k r ≡ cond b 1 0
 is_by k r b e = ap (λ (v : Bool). cond {A = ℕ} v 1 0) e
@@ -85,7 +97,7 @@ strokes_in-written k (r ∷ rs) e f =
     let n : ℕ = body_in bodies (kind r) in
     strokes_in-cons k (kind r) (body r ++ written rs)
     ∙ (ap₂ (λ (xs ys : List ℕ). keep (eqb (kind r) k) (stroke_in xs) (strokes_in bodies k ys)) (take_at (body r) (written rs) n (body_length r)) (drop_at (body r) (written rs) n (body_length r))
-    ∙ (keep_read (eqb (kind r) k) k r f.0 e refl _ ∙ ap (keep (eqb (kind r) k) (stroke r)) (strokes_in-written k rs e f.1)))
+    ∙ (keep_read (eqb (kind r) k) k r f.0 e refl _ ∙ (ap (keep (eqb (kind r) k) (stroke r)) (strokes_in-written k rs e f.1) ∙ sym (strokes-cons k r rs))))
 
 -- whole records begin with a whole record, and behind it are whole records
 whole_by : (k x : ℕ) (bs : List ℕ) (rs : List Record) → AllByRecursion Fits rs → written rs ≡ x ∷ bs → body_in bodies k ≡ 3

@@ -16,7 +16,7 @@ use Rattle.ticket.specs.Kinds.{body_in}
 use Rattle.ticket.specs.Numbers.{can_fault, map_err}
 use Rattle.ticket.specs.Refusals.{faults, first_of, unknown, cut, misplaced, twice, high, still, full, miscounted}
 use Rattle.ticket.proofs.Codes.{bodies, Known, Known.k1, Known.k2, Known.k3, Known.k4, Known.k5, Known.k6, Known.k7, Known.k15, known, Coded, encode}
-use Rattle.ticket.specs.Reading.{then, record_of, framed, ordered, fielded, admitted, stepped}
+use Rattle.ticket.specs.Reading.{and_then, record_of, framed, ordered, fielded, admitted, stepped}
 
 abbrev ok_with : {A F : Type 0} → A → Result A F
 ok_with x = Ok x
@@ -33,19 +33,19 @@ under f (Err e) x h = let z : ◌≡◌ {A = ℕ} 0 1 = cc in absurd (omega arit
 
 module _ (table : List ℕ) (room : Room) (c : ℕ → ℕ) (p k : ℕ) (zs : List ℕ) where
   abbrev pub fielding : ℕ → Result Entry CanFault
-  fielding n = then (map_err (λ f. Record f p) (map_err Field (fielded k (take n zs)))) (λ r. admitted room c p r)
+  fielding n = and_then (map_err (λ f. Record f p) (map_err Field (fielded k (take n zs)))) (λ r. admitted room c p r)
 
   abbrev pub ordering : ℕ → Result Entry CanFault
-  ordering n = then (ordered c p k) (λ _. fielding n)
+  ordering n = and_then (ordered c p k) (λ _. fielding n)
 
   -- the answer of the last check is that of all, where those before it passed
   pub passes : (n : ℕ) (r : Entry) (v : Result Entry CanFault)
       → framed table k zs ≡ Ok n → ordered c p k ≡ Ok tt → map_err Field (fielded k (take n zs)) ≡ Ok r
       → v ≡ admitted room c p r → v ≡ stepped table room c p k zs
   passes n r v a b d e =
-      e ∙ sym (ap (λ (w : Result ℕ RecordFault). then (map_err (λ f. Record f p) w) ordering) a
-      ∙ (ap (λ (w : Result (Unit {0}) CanFault). then w (λ _. fielding n)) b
-      ∙ ap (λ (w : Result Entry RecordFault). then (map_err (λ f. Record f p) w) (λ q. admitted room c p q)) d))
+      e ∙ sym (ap (λ (w : Result ℕ RecordFault). and_then (map_err (λ f. Record f p) w) ordering) a
+      ∙ (ap (λ (w : Result (Unit {0}) CanFault). and_then w (λ _. fielding n)) b
+      ∙ ap (λ (w : Result Entry RecordFault). and_then (map_err (λ f. Record f p) w) (λ q. admitted room c p q)) d))
 
 -- a check that found nothing
 abbrev pub Off : Bool × CanFault → Type 0
@@ -115,11 +115,11 @@ module _ (room : Room) (c : ℕ → ℕ) (p k : ℕ) (zs : List ℕ) where
 
   laddered : stepped bodies room c p k zs ≡ ladder six after_six
   laddered =
-      both (λ (x : Result ℕ RecordFault). then (map_err (λ f. Record f p) x) (ordering bodies room c p k zs)) (unknown bodies k) (cut bodies k zs) _ _ _
+      both (λ (x : Result ℕ RecordFault). and_then (map_err (λ f. Record f p) x) (ordering bodies room c p k zs)) (unknown bodies k) (cut bodies k zs) _ _ _
       ∙ ap (λ (x : Result Entry CanFault). cond (unknown bodies k) (err_e (can_fault 3 p)) (cond (cut bodies k zs) (err_e (can_fault 4 p)) x))
-      (both (λ (x : Result (Unit {0}) CanFault). then x (λ _. fielding bodies room c p k zs (body_in bodies k))) (misplaced c k) (twice c k) _ _ _
+      (both (λ (x : Result (Unit {0}) CanFault). and_then x (λ _. fielding bodies room c p k zs (body_in bodies k))) (misplaced c k) (twice c k) _ _ _
       ∙ ap (λ (x : Result Entry CanFault). cond (misplaced c k) (err_e (can_fault 5 p)) (cond (twice c k) (err_e (can_fault 6 p)) x))
-      (both (λ (x : Result Entry FieldFault). then (map_err (λ f. Record f p) (map_err Field x)) (λ r. admitted room c p r)) (high k xs) (still k xs) _ _ _))
+      (both (λ (x : Result Entry FieldFault). and_then (map_err (λ f. Record f p) (map_err Field x)) (λ r. admitted room c p r)) (high k xs) (still k xs) _ _ _))
 
   -- a record without a fault
   pub record Passed (r : Entry) : Type 0 where

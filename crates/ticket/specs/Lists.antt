@@ -1,6 +1,6 @@
 -- What a ticket says, and what makes it lawful, in its author's words.
 -- Kinds go by their numbers: 1 head, 2 tint, 3 purge, 4 resume, 5 limit, 6 stride, 7 first canister, 15 end.
-use Rattle.std.specs.Prelude.{◌≡◌, ℕ, ◌+◌, ◌≤◌, Bool, true, false, cond, ◌≢◌, List, [], ◌∷◌, ◌++◌, length, ◌==◌}
+use Rattle.std.specs.Prelude.{◌≡◌, ℕ, ◌+◌, ◌≤◌, ◌≢◌, List, [], ◌∷◌, ◌++◌, length, map, filter, ◌==◌, if◌then◌else◌, ⊤}
 use Rattle.std.specs.List.{AllByRecursion}
 use Rattle.frame.specs.declared.stroke.Stroke.{Stroke}
 use Rattle.ticket.specs.declared.record.Record.{Record}
@@ -44,7 +44,7 @@ stroke (End n) = record { valve = 0; volume = 0 }
 
 -- how many records of kind k there are
 abbrev pub is : ℕ → Record → ℕ
-is k r = cond (kind r == k) 1 0
+is k r = if kind r == k then 1 else 0
 
 abbrev pub count : ℕ → List Record → ℕ
 count k [] = 0
@@ -53,32 +53,26 @@ count k (r ∷ rs) = is k r + count k rs
 -- what the record of kind k says by f, d if there is none; of several the last, though a lawful ticket has but one
 abbrev pub said : (Record → ℕ) → ℕ → ℕ → List Record → ℕ
 said f k d [] = d
-said f k d (r ∷ rs) = said f k (cond (kind r == k) (f r) d) rs
-
--- a stroke before others, or only those
-abbrev pub keep : Bool → Stroke → List Stroke → List Stroke
-keep true x xs = x ∷ xs
-keep false x xs = xs
+said f k d (r ∷ rs) = said f k (if kind r == k then f r else d) rs
 
 -- the strokes of kind k, in ticket order
 abbrev pub strokes : ℕ → List Record → List Stroke
-strokes k [] = []
-strokes k (r ∷ rs) = keep (kind r == k) (stroke r) (strokes k rs)
+strokes k rs = map stroke (filter (λ r. kind r == k) rs)
 
 -- the machine has canisters 0 to 15, with a valve each; a stride is never 0 by its type
 abbrev pub Allowed : Record → Type 0
-Allowed (Head c n) = Unit {0}
+Allowed (Head c n) = ⊤
 Allowed (Tint x) = x.valve ≤ 15
 Allowed (Purge x) = x.valve ≤ 15
-Allowed (Resume n) = Unit {0}
-Allowed (Limit n) = Unit {0}
-Allowed (Every s) = Unit {0}
+Allowed (Resume n) = ⊤
+Allowed (Limit n) = ⊤
+Allowed (Every s) = ⊤
 Allowed (First n) = n ≤ 15
-Allowed (End n) = Unit {0}
+Allowed (End n) = ⊤
 
 -- a head first and only there
 abbrev pub Headed : List Record → Type 0
-Headed [] = Unit {0}
+Headed [] = ⊤
 Headed (r ∷ rs) = (kind r ≡ 1) × (count 1 rs ≡ 0)
 
 -- records that are right so far: a ticket may begin with them, and its end has not come

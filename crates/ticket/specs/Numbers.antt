@@ -1,5 +1,5 @@
 -- The number of each refusal, its place, and the refusal of a number and a place.
-use Rattle.std.specs.Prelude.{◌≡◌, ℕ, cond, Ok, Err, Result, ◌==◌}
+use Rattle.std.specs.Prelude.{◌≡◌, ℕ, Ok, Err, Result, ◌==◌, if◌then◌else◌}
 use Rattle.ticket.specs.declared.faults.FieldFault.{FieldFault}
 use Rattle.ticket.specs.declared.faults.FieldFault.TheVariants.{ZeroStride, High}
 use Rattle.ticket.specs.declared.faults.RecordFault.{RecordFault}
@@ -40,15 +40,21 @@ can_place (Record f p) = p
 
 -- the fault of a number, in its layer: 1 and 7 are a field's, 3 and 4 a record's, the others a can's
 abbrev pub field_fault : ℕ → FieldFault
-field_fault n = cond (n == 1) ZeroStride High
+field_fault n = if n == 1 then ZeroStride else High
 
 abbrev pub record_fault : ℕ → RecordFault
-record_fault n = cond (n == 3) Unknown (cond (n == 4) Cut (Field (field_fault n)))
+record_fault n = if n == 3 then Unknown else if n == 4 then Cut else Field (field_fault n)
 
 abbrev pub can_fault : ℕ → ℕ → CanFault
 can_fault n p =
-    cond (n == 2) (TooLong p) (cond (n == 5) (Misplaced p) (cond (n == 6) (Twice p) (cond (n == 8) (Full p)
-    (cond (n == 9) (Count p) (cond (n == 10) (After p) (cond (n == 11) (NoEnd p) (Record (record_fault n) p)))))))
+    if n == 2 then TooLong p
+    else if n == 5 then Misplaced p
+    else if n == 6 then Twice p
+    else if n == 8 then Full p
+    else if n == 9 then Count p
+    else if n == 10 then After p
+    else if n == 11 then NoEnd p
+    else Record (record_fault n) p
 
 -- a fault is the one of its number at its place
 abbrev pub Numbered : Type 0

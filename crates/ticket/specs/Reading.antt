@@ -1,5 +1,5 @@
 -- The reader's own steps: what its private functions answer. No public promise names them.
-use Rattle.std.specs.Prelude.{◌≡◌, ℕ, zero, suc, ◌+◌, cond, not, ◌&&◌, List, [], ◌∷◌, length, take, drop, replicate, Ok, Err, Result, ◌==◌, slice_index, slice_set}
+use Rattle.std.specs.Prelude.{◌≡◌, ℕ, zero, suc, ◌+◌, not, ◌&&◌, List, [], ◌∷◌, length, take, drop, replicate, Ok, Err, Result, ◌==◌, slice_index, slice_set, if◌then◌else◌, ⊤}
 use Rattle.std.proofs.Common.{suc-le-suc, zero-le}
 use Rattle.std.specs.List.{AllByRecursion}
 use Rattle.std.specs.Int.Digits.{number_from_digits}
@@ -19,16 +19,16 @@ use Rattle.ticket.specs.declared.seen.Seen.{Seen}
 use Rattle.ticket.specs.Kinds.{body_in}
 use Rattle.ticket.specs.Numbers.{field_fault, record_fault, can_fault, map_err}
 use Rattle.ticket.specs.Records.{kind, written, Fits}
-use Rattle.ticket.specs.Lists.{can_of, says, keep}
+use Rattle.ticket.specs.Lists.{can_of, says}
 use Rattle.ticket.specs.Refusals.{unknown, cut, misplaced, twice, high, still, full}
 
 abbrev pub tally : Seen → ℕ → ℕ
 tally s k = slice_index s.counts k
 
 -- a check, and then the next
-abbrev pub then : {A B E : Type 0} → Result A E → (A → Result B E) → Result B E
-then (Ok x) f = f x
-then (Err e) f = Err e
+abbrev pub and_then : {A B E : Type 0} → Result A E → (A → Result B E) → Result B E
+and_then (Ok x) f = f x
+and_then (Err e) f = Err e
 
 -- the number in the w bytes from place i on
 abbrev pub number_in : ℕ → ℕ → List ℕ → ℕ
@@ -41,7 +41,9 @@ stroke_in xs = record { valve = slice_index xs 0; volume = number_in 1 2 xs }
 abbrev pub strokes_within : List ℕ → ℕ → ℕ → List ℕ → List Stroke
 strokes_within table zero k bs = []
 strokes_within table (suc n) k [] = []
-strokes_within table (suc n) k (b ∷ bs) = keep (b == k) (stroke_in (take (body_in table b) bs)) (strokes_within table n k (drop (body_in table b) bs))
+strokes_within table (suc n) k (b ∷ bs) =
+    let later = strokes_within table n k (drop (body_in table b) bs) in
+    if b == k then stroke_in (take (body_in table b) bs) ∷ later else later
 
 unfoldable pub strokes_in : List ℕ → ℕ → List ℕ → List Stroke
 strokes_in table k bs = strokes_within table (length bs) k bs
@@ -61,33 +63,35 @@ stride_in (suc n) = record { steps = suc n; some = suc-le-suc zero-le }
 -- the record of a kind and a body
 abbrev pub record_of : ℕ → List ℕ → Entry
 record_of k xs =
-    cond (k == 1) (Head (number_in 0 4 xs) (number_in 4 2 xs))
-    (cond (k == 2) (Tint (stroke_in xs))
-    (cond (k == 3) (Purge (stroke_in xs))
-    (cond (k == 4) (Resume (number_from_digits 256 xs))
-    (cond (k == 5) (Limit (number_from_digits 256 xs))
-    (cond (k == 6) (Every (stride_in (number_from_digits 256 xs)))
-    (cond (k == 7) (First (slice_index xs 0))
-    (End (number_from_digits 256 xs))))))))
+    if k == 1 then Head (number_in 0 4 xs) (number_in 4 2 xs)
+    else if k == 2 then Tint (stroke_in xs)
+    else if k == 3 then Purge (stroke_in xs)
+    else if k == 4 then Resume (number_from_digits 256 xs)
+    else if k == 5 then Limit (number_from_digits 256 xs)
+    else if k == 6 then Every (stride_in (number_from_digits 256 xs))
+    else if k == 7 then First (slice_index xs 0)
+    else End (number_from_digits 256 xs)
 
 abbrev pub framed : List ℕ → ℕ → List ℕ → Result ℕ RecordFault
-framed table k zs = cond (unknown table k) (Err (record_fault 3)) (cond (cut table k zs) (Err (record_fault 4)) (Ok (body_in table k)))
+framed table k zs = if unknown table k then Err (record_fault 3) else if cut table k zs then Err (record_fault 4) else Ok (body_in table k)
 
-abbrev pub ordered : (ℕ → ℕ) → ℕ → ℕ → Result (Unit {0}) CanFault
-ordered c p k = cond (misplaced c k) (Err (can_fault 5 p)) (cond (twice c k) (Err (can_fault 6 p)) (Ok tt))
+abbrev pub ordered : (ℕ → ℕ) → ℕ → ℕ → Result ⊤ CanFault
+ordered c p k = if misplaced c k then Err (can_fault 5 p) else if twice c k then Err (can_fault 6 p) else Ok tt
 
 abbrev pub fielded : ℕ → List ℕ → Result Entry FieldFault
-fielded k xs = cond (high k xs) (Err (field_fault 7)) (cond (still k xs) (Err (field_fault 1)) (Ok (record_of k xs)))
+fielded k xs = if high k xs then Err (field_fault 7) else if still k xs then Err (field_fault 1) else Ok (record_of k xs)
 
 abbrev pub admitted : Room → (ℕ → ℕ) → ℕ → Entry → Result Entry CanFault
 admitted room c p r =
-    cond (full room c (kind r)) (Err (can_fault 8 p)) (cond (kind r == 15 && not (says r == c 2 + c 3)) (Err (can_fault 9 p)) (Ok r))
+    if full room c (kind r) then Err (can_fault 8 p)
+    else if kind r == 15 && not (says r == c 2 + c 3) then Err (can_fault 9 p)
+    else Ok r
 
 abbrev pub stepped : List ℕ → Room → (ℕ → ℕ) → ℕ → ℕ → List ℕ → Result Entry CanFault
 stepped table room c p k zs =
-    then (map_err (λ f. Record f p) (framed table k zs)) (λ n.
-    then (ordered c p k) (λ _.
-    then (map_err (λ f. Record f p) (map_err Field (fielded k (take n zs)))) (λ r. admitted room c p r)))
+    and_then (map_err (λ f. Record f p) (framed table k zs)) (λ n.
+    and_then (ordered c p k) (λ _.
+    and_then (map_err (λ f. Record f p) (map_err Field (fielded k (take n zs)))) (λ r. admitted room c p r)))
 
 -- before the first record
 abbrev pub nothing : Room → Seen
@@ -113,12 +117,12 @@ abbrev pub saying : Loaded → Entry → Loaded
 saying l r = record {
   purges = l.purges;
   tints = l.tints;
-  can = cond (kind r == 1) (can_of r) l.can;
-  size = cond (kind r == 1) (says r) l.size;
-  resume = cond (kind r == 4) (says r) l.resume;
-  limit = cond (kind r == 5) (says r) l.limit;
+  can = if kind r == 1 then can_of r else l.can;
+  size = if kind r == 1 then says r else l.size;
+  resume = if kind r == 4 then says r else l.resume;
+  limit = if kind r == 5 then says r else l.limit;
   stride = stride_or r l.stride;
-  first = cond (kind r == 7) (says r) l.first;
+  first = if kind r == 7 then says r else l.first;
 }
 
 -- what has been seen after one record more

@@ -1,5 +1,5 @@
 -- Why a ticket is refused, and where, in its author's words.
-use Rattle.std.specs.Prelude.{◌≡◌, ℕ, ◌+◌, ◌<◌, ◌≤◌, Bool, cond, not, ◌&&◌, ◌||◌, ◌⊎◌, List, [], ◌∷◌, ◌++◌, length, take, Some, None, Option, ◌==◌, nat_le, nat_lt, slice_index}
+use Rattle.std.specs.Prelude.{◌≡◌, ℕ, ◌+◌, ◌<◌, ◌≤◌, Bool, not, ◌&&◌, ◌||◌, ◌⊎◌, List, [], ◌∷◌, ◌++◌, length, take, Some, None, Option, ◌==◌, nat_le, nat_lt, slice_index, if◌then◌else◌}
 use Rattle.std.specs.Int.Digits.{number_from_digits}
 use Rattle.ticket.specs.declared.faults.CanFault.{CanFault}
 use Rattle.ticket.specs.declared.record.Record.{Record}
@@ -20,7 +20,7 @@ cut table k zs = nat_lt (length zs) (body_in table k)
 
 -- no head stands before it and it is none, so it is the first and no head; or one does, and it is another
 abbrev pub misplaced : (ℕ → ℕ) → ℕ → Bool
-misplaced c k = cond (c 1 == 0) (not (k == 1)) (k == 1)
+misplaced c k = if c 1 == 0 then not (k == 1) else k == 1
 
 -- it is a setting that has been made
 abbrev pub twice : (ℕ → ℕ) → ℕ → Bool
@@ -60,7 +60,7 @@ after table p k zs = (followed table k zs, can_fault 10 (p + 1 + body_in table k
 
 abbrev pub first_of : List (Bool × CanFault) → Option CanFault
 first_of [] = None
-first_of (x ∷ xs) = cond x.0 (Some x.1) (first_of xs)
+first_of (x ∷ xs) = if x.0 then Some x.1 else first_of xs
 
 -- what is wrong at place p, where the bytes ys are left: the first fault of the record that they begin with, or that no end came
 abbrev pub wrong : List ℕ → Room → (ℕ → ℕ) → ℕ → List ℕ → Option CanFault

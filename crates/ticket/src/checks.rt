@@ -86,7 +86,7 @@ impl Seen {
 
     // The record, if a stroke's table has room for it, and an end's number is that of the strokes so far.
     fn admit(&self, record: Record) -> Result<Record, CanFault>
-        requires { tally self.now 2 + tally self.now 3 < 2 ^ 32 }
+        requires { tally self.now TINT + tally self.now PURGE < 2 ^ 32 }
         ensures { result ≡ admitted self.now.room (tally self.now) self.now.place «record» }
     {
         let (tints, purges) = (self.count(TINT), self.count(PURGE));
@@ -100,7 +100,7 @@ impl Seen {
 
     // The record that stands behind those seen so far, or its first fault.
     pub fn next(&self, kind: u8, tail: &[u8]) -> Result<Record, CanFault>
-        requires { tally self.now 2 + tally self.now 3 < 2 ^ 32 }
+        requires { tally self.now TINT + tally self.now PURGE < 2 ^ 32 }
         ensures { result ≡ stepped BODIES self.now.room (tally self.now) self.now.place kind tail.now }
     {
         let len = frame(kind, tail).map_err(|fault| (fault, self.place))?;

@@ -2,7 +2,7 @@
 use cursor::stride::Stride;
 
 // What a ticket says, but for its strokes, which are in the tables.
-#[derive(Clone, Copy, Debug)]
+#[derive(Clone, Copy, Debug, PartialEq, Eq)]
 pub struct Loaded {
     pub purges: usize,
     pub tints: usize,

@@ -7,7 +7,7 @@ use cursor::stride::Stride;
 use frame::stroke::Stroke;
 
 // One record, as its author means it.
-#[derive(Clone, Copy, Debug)]
+#[derive(Clone, Copy, Debug, PartialEq, Eq)]
 pub enum Record {
     // the can's number, and its size in ml
     Head(u32, u16),
