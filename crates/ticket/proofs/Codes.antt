@@ -1,8 +1,9 @@
 -- A record can be told from its bytes.
 use Rattle.std.proofs.Common.{◌≡◌, ℕ, zero, suc, ◌^◌, ◌<◌, false, ◌⊎◌, List, [], ◌∷◌, ◌++◌, length, get_or, take, drop, sym, refl, ap, ◌∙◌, ap₂, inl, inr, append_assoc, append-nil, suc-le-suc, zero-le, not-suc-le-zero, arith, length-append, length-drop, take-append-drop, length-take-le, take_all, take_at, drop_at}
-use Rattle.std.specs.List.{AllByRecursion}
+use Rattle.std.specs.List.{All}
 use Rattle.std.specs.Int.Digits.{AllBelowBase, number_from_digits}
 use Rattle.std.proofs.ByRecursion.{All-take, All-drop}
+use Rattle.std.proofs.lemmas.List.Elements.{All-head, All-tail}
 use Rattle.std.proofs.lemmas.Bool.{ltb-false, eqb-false}
 use Rattle.cursor.specs.declared.stride.Stride.{Stride}
 use Rattle.cursor.proofs.NonZero.{stride, same_stride}
@@ -166,15 +167,15 @@ pub record Longer (rs ss : List Record) (ys zs : List ℕ) : Type 0 where
   pub left : ys ≡ kind next ∷ (body next ++ (written rest ++ zs))
 
 -- two lists of records that the same bytes begin with are the same, or one goes on where the other stops
-pub fork : (rs ss : List Record) (ys zs : List ℕ) → AllByRecursion Fits rs → AllByRecursion Fits ss → written rs ++ ys ≡ written ss ++ zs
+pub fork : (rs ss : List Record) (ys zs : List ℕ) → All Fits rs → All Fits ss → written rs ++ ys ≡ written ss ++ zs
     → ((rs ≡ ss) × (ys ≡ zs)) ⊎ (Longer rs ss ys zs ⊎ Longer ss rs zs ys)
 fork [] [] ys zs f g e = inl (refl, e)
 fork [] (s ∷ ss) ys zs f g e = inr (inl (record { next = s; rest = ss; list = refl; left = e ∙ ap (λ (xs : List ℕ). kind s ∷ xs) (append_assoc (body s) (written ss) zs) }))
 fork (r ∷ rs) [] ys zs f g e = inr (inr (record { next = r; rest = rs; list = refl; left = sym e ∙ ap (λ (xs : List ℕ). kind r ∷ xs) (append_assoc (body r) (written rs) ys) }))
 fork (r ∷ rs) (s ∷ ss) ys zs f g e =
-    let b = first_record r s (written rs ++ ys) (written ss ++ zs) f.0 g.0
+    let b = first_record r s (written rs ++ ys) (written ss ++ zs) (All-head Fits r rs f) (All-head Fits s ss g)
     (sym (ap (λ (xs : List ℕ). kind r ∷ xs) (append_assoc (body r) (written rs) ys)) ∙ (e ∙ ap (λ (xs : List ℕ). kind s ∷ xs) (append_assoc (body s) (written ss) zs))) in
-    elim (fork rs ss ys zs f.1 g.1 b.1) [
+    elim (fork rs ss ys zs (All-tail Fits r rs f) (All-tail Fits s ss g) b.1) [
       | inl q ↦ inl (ap₂ ◌∷◌ b.0 q.0, q.1)
       | inr (inl q) ↦ inr (inl (record { next = q.next; rest = q.rest; list = ap₂ ◌∷◌ (sym b.0) q.list; left = q.left }))
       | inr (inr q) ↦ inr (inr (record { next = q.next; rest = q.rest; list = ap₂ ◌∷◌ b.0 q.list; left = q.left }))

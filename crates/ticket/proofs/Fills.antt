@@ -1,9 +1,9 @@
 -- The strokes of a lawful ticket, as they are read and written to the tables.
 use Rattle.std.proofs.Common.{◌≡◌, ℕ, zero, suc, ◌+◌, ◌≤◌, Bool, true, false, cond, eqb, ◌≢◌, slice_index, List, [], ◌∷◌, ◌++◌, length, take, drop, set, sym, refl, ap, ◌∙◌, subst, ap₂, zero-add, add-one, arith, length-append, length-drop, length-set, take_at, drop_at}
 use lib.Seq.{sets, sets-eq}
-use Rattle.std.specs.List.{AllByRecursion, filter}
+use Rattle.std.specs.List.{All, filter}
 use mathlib.Core.List.{map}
-use Rattle.std.proofs.ByRecursion.{All-push}
+use Rattle.std.proofs.lemmas.List.Elements.{All-head, All-tail, All-push}
 use Rattle.std.proofs.lemmas.List.{nil_from_length}
 use Rattle.std.proofs.lemmas.Bool.{eq-eqb, eqb-true, ne_eqb}
 use Rattle.frame.specs.declared.stroke.Stroke.{Stroke}
@@ -42,8 +42,8 @@ is_by : (k : ℕ) (r : Record) (b : Bool) → eqb (kind r) k ≡ b → is k r �
 is_by k r b e = ap (λ (v : Bool). cond {A = ℕ} v 1 0) e
 
 -- each record of a lawful ticket fits its bytes
-pub lawful_fits : (room : Room) (rs : List Record) → Lawful room rs → AllByRecursion Fits rs
-lawful_fits room rs l = subst (AllByRecursion Fits) (sym l.ends) (All-push Fits l.inner (End (count 2 l.inner + count 3 l.inner)) l.right.fits (end_fits room rs l))
+pub lawful_fits : (room : Room) (rs : List Record) → Lawful room rs → All Fits rs
+lawful_fits room rs l = subst (All Fits) (sym l.ends) (All-push Fits l.inner (End (count 2 l.inner + count 3 l.inner)) l.right.fits (end_fits room rs l))
 
 -- and its tables have room for its strokes
 pub lawful_room : (room : Room) (rs : List Record) → Lawful room rs → (count 3 rs ≤ room.purges) × (count 2 rs ≤ room.tints)
@@ -91,16 +91,16 @@ keep_read true k r f e q xs = ap (λ (x : Stroke). x ∷ xs) (stroke_read r f (a
 keep_read false k r f e q xs = refl
 
 -- they are those of the records that the bytes are of
-pub strokes_in-written : (k : ℕ) (rs : List Record) → body_in bodies k ≡ 3 → AllByRecursion Fits rs → strokes_in bodies k (written rs) ≡ strokes k rs
+pub strokes_in-written : (k : ℕ) (rs : List Record) → body_in bodies k ≡ 3 → All Fits rs → strokes_in bodies k (written rs) ≡ strokes k rs
 strokes_in-written k [] e f = strokes_in-nil k
 strokes_in-written k (r ∷ rs) e f =
     let n : ℕ = body_in bodies (kind r) in
     strokes_in-cons k (kind r) (body r ++ written rs)
     ∙ (ap₂ (λ (xs ys : List ℕ). keep (eqb (kind r) k) (stroke_in xs) (strokes_in bodies k ys)) (take_at (body r) (written rs) n (body_length r)) (drop_at (body r) (written rs) n (body_length r))
-    ∙ (keep_read (eqb (kind r) k) k r f.0 e refl _ ∙ (ap (keep (eqb (kind r) k) (stroke r)) (strokes_in-written k rs e f.1) ∙ sym (strokes-cons k r rs))))
+    ∙ (keep_read (eqb (kind r) k) k r (All-head Fits r rs f) e refl _ ∙ (ap (keep (eqb (kind r) k) (stroke r)) (strokes_in-written k rs e (All-tail Fits r rs f)) ∙ sym (strokes-cons k r rs))))
 
 -- whole records begin with a whole record, and behind it are whole records
-whole_by : (k x : ℕ) (bs : List ℕ) (rs : List Record) → AllByRecursion Fits rs → written rs ≡ x ∷ bs → body_in bodies k ≡ 3
+whole_by : (k x : ℕ) (bs : List ℕ) (rs : List Record) → All Fits rs → written rs ≡ x ∷ bs → body_in bodies k ≡ 3
     → (body_in bodies x ≤ length bs) × Whole bodies k (drop (body_in bodies x) bs)
 whole_by k x bs [] f w e = absurd (omega (arith, ap length w))
 whole_by k x bs (r ∷ rs) f w e =
@@ -108,7 +108,7 @@ whole_by k x bs (r ∷ rs) f w e =
     let b : body r ++ written rs ≡ bs = ap (drop 1) w in
     let l : length (body r) ≡ body_in bodies x = body_length r ∙ ap (body_in bodies) q in (
       omega (arith, ap length b, length-append (body r) (written rs)),
-      record { rs = rs; fits = f.1; bytes = sym (drop_at (body r) (written rs) (body_in bodies x) l) ∙ ap (drop (body_in bodies x)) b; strokes = e },
+      record { rs = rs; fits = All-tail Fits r rs f; bytes = sym (drop_at (body r) (written rs) (body_in bodies x) l) ∙ ap (drop (body_in bodies x)) b; strokes = e },
     )
 
 module _ (k x n : ℕ) (bs ys : List ℕ) (w : Whole bodies k ys) (e : ys ≡ x ∷ bs) (m : n ≡ body_in bodies x) where

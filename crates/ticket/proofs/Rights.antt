@@ -1,8 +1,8 @@
 -- Right records, one after another: what may stand behind them, and what is wrong where nothing may.
 use Rattle.std.proofs.Common.{◌≡◌, ℕ, ◌+◌, ◌^◌, ◌<◌, Bool, false, cond, not, eqb, ◌≢◌, List, [], ◌∷◌, ◌++◌, length, Some, None, refl, ap, ◌∙◌, arith, length-append, take_at}
-use Rattle.std.specs.List.{AllByRecursion}
+use Rattle.std.specs.List.{All, AllByRecursion}
 use Rattle.std.specs.Int.Digits.{number_from_digits}
-use Rattle.std.proofs.ByRecursion.{All-push}
+use Rattle.std.proofs.lemmas.List.Elements.{All-nil, All-head, All-tail, All-push}
 use Rattle.std.proofs.lemmas.Bool.{eq-eqb, ne_eqb, le-ltb, eqb-true, not-false}
 use Rattle.std.proofs.lemmas.Bool.Decides.{nat_tests}
 use Rattle.ticket.specs.declared.faults.CanFault.{CanFault}
@@ -21,9 +21,9 @@ pub count_append : (k : ℕ) (rs ss : List Record) → count k (rs ++ ss) ≡ co
 count_append k [] ss = omega arith
 count_append k (r ∷ rs) ss = omega (arith, count_append k rs ss)
 
-all_mid : (P : Record → Type 0) (rs : List Record) (r : Record) (ss : List Record) → AllByRecursion P (rs ++ (r ∷ ss)) → P r
-all_mid P [] r ss h = h.0
-all_mid P (x ∷ rs) r ss h = all_mid P rs r ss h.1
+all_mid : (P : Record → Type 0) (rs : List Record) (r : Record) (ss : List Record) → All P (rs ++ (r ∷ ss)) → P r
+all_mid P [] r ss h = All-head P r ss h
+all_mid P (x ∷ rs) r ss h = all_mid P rs r ss (All-tail P x (rs ++ (r ∷ ss)) h)
 
 -- r may stand behind the records that c counts
 pub record Stands (room : Room) (c : ℕ → ℕ) (r : Record) : Type 0 where
@@ -55,7 +55,7 @@ stands_mid room rs r ss h =
     }
 
 pub right_none : (room : Room) → Right room []
-right_none room = record { headed = tt; unended = refl; fits = tt; allowed = tt; once = λ k lo hi. omega arith; purges = omega arith; tints = omega arith }
+right_none room = record { headed = tt; unended = refl; fits = All-nil Fits; allowed = All-nil Allowed; once = λ k lo hi. omega arith; purges = omega arith; tints = omega arith }
 
 headed_push : (rs : List Record) (r : Record) → Headed rs → misplaced (λ k. count k rs) (kind r) ≡ false → Headed (rs ++ (r ∷ []))
 headed_push [] r h m = (eqb-true (kind r) 1 (not-false (eqb (kind r) 1) m), refl)

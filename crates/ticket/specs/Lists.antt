@@ -1,7 +1,6 @@
 -- What a ticket says, and what makes it lawful, in its author's words.
 -- Kinds go by their numbers: 1 head, 2 tint, 3 purge, 4 resume, 5 limit, 6 stride, 7 first canister, 15 end.
-use Rattle.std.specs.Prelude.{◌≡◌, ℕ, ◌+◌, ◌≤◌, ◌≢◌, List, [], ◌∷◌, ◌++◌, length, map, filter, ◌==◌, if◌then◌else◌, ⊤}
-use Rattle.std.specs.List.{AllByRecursion}
+use Rattle.std.specs.Prelude.{All, ◌≡◌, ℕ, ◌+◌, ◌≤◌, ◌≢◌, List, [], ◌∷◌, ◌++◌, length, map, filter, ◌==◌, if◌then◌else◌, ⊤}
 use Rattle.frame.specs.declared.stroke.Stroke.{Stroke}
 use Rattle.ticket.specs.declared.record.Record.{Record}
 use Rattle.ticket.specs.declared.record.Record.TheVariants.{Head, Tint, Purge, Resume, Limit, Every, First, End}
@@ -79,8 +78,8 @@ Headed (r ∷ rs) = (kind r ≡ 1) × (count 1 rs ≡ 0)
 pub record Right (room : Room) (rs : List Record) : Type 0 where
   pub headed : Headed rs
   pub unended : count 15 rs ≡ 0
-  pub fits : AllByRecursion Fits rs
-  pub allowed : AllByRecursion Allowed rs
+  pub fits : All Fits rs
+  pub allowed : All Allowed rs
   -- each setting at most once
   pub once : (k : ℕ) → 4 ≤ k → k ≤ 7 → count k rs ≤ 1
   -- the tables have an entry for each stroke

@@ -1,7 +1,6 @@
 -- The reader's own steps: what its private functions answer. No public promise names them.
-use Rattle.std.specs.Prelude.{◌≡◌, ℕ, zero, suc, ◌+◌, not, ◌&&◌, List, [], ◌∷◌, length, take, drop, replicate, Ok, Err, Result, ◌==◌, slice_index, slice_set, if◌then◌else◌, ⊤}
+use Rattle.std.specs.Prelude.{All, ◌≡◌, ℕ, zero, suc, ◌+◌, not, ◌&&◌, List, [], ◌∷◌, length, take, drop, replicate, Ok, Err, Result, ◌==◌, slice_index, slice_set, if◌then◌else◌, ⊤}
 use Rattle.std.proofs.Common.{suc-le-suc, zero-le}
-use Rattle.std.specs.List.{AllByRecursion}
 use Rattle.std.specs.Int.Digits.{number_from_digits}
 use Rattle.cursor.specs.declared.stride.Stride.{Stride}
 use Rattle.cursor.specs.NonZero.{one_stride}
@@ -51,7 +50,7 @@ strokes_in table k bs = strokes_within table (length bs) k bs
 -- the bytes are those of whole records, and the records of kind k are strokes
 pub record Whole (table : List ℕ) (k : ℕ) (bs : List ℕ) : Type 0 where
   pub rs : List Entry
-  pub fits : AllByRecursion Fits rs
+  pub fits : All Fits rs
   pub bytes : written rs ≡ bs
   pub strokes : body_in table k ≡ 3
 

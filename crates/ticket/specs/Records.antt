@@ -1,6 +1,5 @@
 -- A ticket as a list of records, and how it is written in bytes.
-use Rattle.std.specs.Prelude.{◌≡◌, ℕ, zero, suc, ◌/◌, ◌%◌, ◌^◌, ◌<◌, List, [], ◌∷◌, ◌++◌}
-use Rattle.std.specs.List.{AllByRecursion}
+use Rattle.std.specs.Prelude.{All, ◌≡◌, ℕ, zero, suc, ◌/◌, ◌%◌, ◌^◌, ◌<◌, List, [], ◌∷◌, ◌++◌}
 use Rattle.ticket.specs.declared.record.Record.{Record}
 use Rattle.ticket.specs.declared.record.Record.TheVariants.{Head, Tint, Purge, Resume, Limit, Every, First, End}
 
@@ -49,4 +48,4 @@ Fits (End n) = n < 2 ^ 16
 
 -- the records can be told from their bytes
 abbrev pub Unambiguous : Type 0
-Unambiguous = (rs ss : List Record) → AllByRecursion Fits rs → AllByRecursion Fits ss → written rs ≡ written ss → rs ≡ ss
+Unambiguous = (rs ss : List Record) → All Fits rs → All Fits ss → written rs ≡ written ss → rs ≡ ss

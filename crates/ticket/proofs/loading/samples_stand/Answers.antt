@@ -2,7 +2,9 @@ use Rattle.std.proofs.Common.{List, [], ◌∷◌, length, refl, ap, inr, arith}
 use Rattle.std.proofs.lemmas.Bool.Decides.{nat_tests}
 use Rattle.ticket.specs.declared.record.Record.{Record}
 use Rattle.ticket.specs.declared.record.Record.TheVariants.{Head, Tint, Purge, Every}
-use Rattle.ticket.specs.Records.{big}
+use Rattle.std.proofs.lemmas.List.Elements.{All-from_recursion}
+use Rattle.ticket.specs.Records.{big, Fits}
+use Rattle.ticket.specs.Lists.{Allowed}
 use Rattle.ticket.specs.Samples.{pour, every_two}
 use Rattle.ticket.proofs.Rights.{right_none}
 use Rattle.ticket.proofs.loading.samples_stand.Goals as goal
@@ -19,8 +21,8 @@ returns c = record {
     right = record {
       headed = (refl, refl);
       unended = refl;
-      fits = omega arith;
-      allowed = omega arith;
+      fits = All-from_recursion Fits inner (omega arith);
+      allowed = All-from_recursion Allowed inner (omega arith);
       once = λ k lo hi. grind (arith, nat_tests);
       purges = p;
       tints = t;
