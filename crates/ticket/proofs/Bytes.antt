@@ -1,15 +1,25 @@
 -- Numbers in bytes, the most significant first.
-use Rattle.std.proofs.Common.{◌≡◌, ℕ, zero, suc, ◌+◌, ◌*◌, ◌/◌, ◌%◌, ◌^◌, ◌<◌, List, [], ◌∷◌, length, get_or, take, sym, refl, ap, ◌∙◌, ap₂, pow-suc, arith, length-append, take_all, w8, Fits as FitsWidth}
+use Rattle.std.proofs.Common.{◌≡◌, ℕ, zero, suc, ◌+◌, ◌*◌, ◌/◌, ◌%◌, ◌^◌, ◌<◌, List, [], ◌∷◌, ◌++◌, length, get_or, take, drop, sym, refl, ap, ◌∙◌, ap₂, pow-suc, arith, length-append, take_all, w8, Fits as FitsWidth}
 use native.Mathlib.Nat.{pow-zero}
 use Rattle.std.specs.Int.Digits.{number_from_digits, number_from_digits_after, AllBelowBase}
 use Rattle.std.proofs.lemmas.Int.Digits.{number_push, number_more, number_lt}
-use Rattle.std.proofs.ByRecursion.{All-push, All-from_get_or}
+use Rattle.std.proofs.lemmas.List.Elements.{All-from_recursion, recursion_from_All, All-push, All-take, All-drop, All-from_get_or}
 use Rattle.byteorder.specs.Endian.{big_number as read_of}
 use Rattle.ticket.specs.Records.{big}
 
+abbrev Byte : ℕ → Type 0
+Byte d = d < 256
+
 -- a slice of bytes holds bytes
 pub bytes_under : (bs : List ℕ) → ((i : ℕ) → FitsWidth w8 (get_or bs i 0)) → AllBelowBase 256 bs
-bytes_under bs f = All-from_get_or (λ d. d < 256) bs 0 (λ i h. omega (arith, (f i).fits))
+bytes_under bs f = recursion_from_All Byte bs (All-from_get_or Byte bs 0 (λ i h. omega (arith, (f i).fits)))
+
+-- and so does each part of it
+pub under_take : (n : ℕ) (bs : List ℕ) → AllBelowBase 256 bs → AllBelowBase 256 (take n bs)
+under_take n bs u = recursion_from_All Byte (take n bs) (All-take Byte n bs (All-from_recursion Byte bs u))
+
+pub under_drop : (n : ℕ) (bs : List ℕ) → AllBelowBase 256 bs → AllBelowBase 256 (drop n bs)
+under_drop n bs u = recursion_from_All Byte (drop n bs) (All-drop Byte n bs (All-from_recursion Byte bs u))
 
 -- what is read of eight bytes is the number that they spell
 pub read_8 : (n : ℕ) (xs : List ℕ) → n ≡ read_of 8 xs → length xs ≡ 8 → n ≡ number_from_digits 256 xs
@@ -36,7 +46,9 @@ big_length (suc w) n = omega (arith, length-append (big w (n / 256)) (n % 256 �
 big_under : (w n : ℕ) → AllBelowBase 256 (big w n)
 unfolding big
 big_under zero n = tt
-big_under (suc w) n = All-push (λ d. d < 256) (big w (n / 256)) (n % 256) (big_under w (n / 256)) (omega arith)
+big_under (suc w) n =
+    let u = All-from_recursion Byte (big w (n / 256)) (big_under w (n / 256)) in
+    recursion_from_All Byte (big w (n / 256) ++ (n % 256 ∷ [])) (All-push Byte (big w (n / 256)) (n % 256) u (omega arith))
 
 less : (n p : ℕ) → n < p * 256 → n / 256 < p
 less n p h = omega arith

@@ -2,7 +2,6 @@
 use Rattle.std.proofs.Common.{◌≡◌, ℕ, zero, suc, ◌^◌, ◌<◌, false, ◌⊎◌, List, [], ◌∷◌, ◌++◌, length, get_or, take, drop, sym, refl, ap, ◌∙◌, ap₂, inl, inr, append_assoc, append-nil, suc-le-suc, zero-le, not-suc-le-zero, arith, length-append, length-drop, take-append-drop, length-take-le, take_all, take_at, drop_at}
 use Rattle.std.specs.List.{All}
 use Rattle.std.specs.Int.Digits.{AllBelowBase, number_from_digits}
-use Rattle.std.proofs.ByRecursion.{All-take, All-drop}
 use Rattle.std.proofs.lemmas.List.Elements.{All-head, All-tail}
 use Rattle.std.proofs.lemmas.Bool.{ltb-false, eqb-false}
 use Rattle.cursor.specs.declared.stride.Stride.{Stride}
@@ -14,7 +13,7 @@ use Rattle.ticket.specs.Records.{big, kind, body, written, Fits, Unambiguous}
 use Rattle.ticket.specs.Lists.{Allowed}
 use Rattle.ticket.specs.Refusals.{high, still}
 use Rattle.ticket.specs.Reading.{stride_in, record_of}
-use Rattle.ticket.proofs.Bytes.{big_length, big_number, number_big}
+use Rattle.ticket.proofs.Bytes.{under_take, under_drop, big_length, big_number, number_big}
 
 -- the table that the code has
 abbrev pub bodies : List ℕ
@@ -121,9 +120,9 @@ pub record Coded (k : ℕ) (xs : List ℕ) (r : Record) : Type 0 where
 -- bytes without a fault are the writing of the record that is read off them
 pub encode : (k : ℕ) → Known k → (xs : List ℕ) → length xs ≡ body_in bodies k → AllBelowBase 256 xs → high k xs ≡ false → still k xs ≡ false → Coded k xs (record_of k xs)
 encode k k1 xs l u h s =
-    let a = big_number (take 4 xs) 4 (length-take-le 4 xs (omega arith)) (All-take (λ d. d < 256) 4 xs u) in
+    let a = big_number (take 4 xs) 4 (length-take-le 4 xs (omega arith)) (under_take 4 xs u) in
     let e : take 2 (drop 4 xs) ≡ drop 4 xs = take_all 2 (drop 4 xs) (omega (arith, length-drop 4 xs)) in
-    let b = big_number (drop 4 xs) 2 (omega (arith, length-drop 4 xs)) (All-drop (λ d. d < 256) 4 xs u) in
+    let b = big_number (drop 4 xs) 2 (omega (arith, length-drop 4 xs)) (under_drop 4 xs u) in
     record {
       kind_is = refl;
       body_is = ap₂ (λ (p q : List ℕ). p ++ q) a.1 (ap (λ (ys : List ℕ). big 2 (number_from_digits 256 ys)) e ∙ b.1) ∙ take-append-drop 4 xs;

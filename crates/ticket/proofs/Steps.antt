@@ -3,7 +3,7 @@ use Rattle.std.proofs.Common.{◌≡◌, ℕ, ◌<◌, Bool, true, false, cond, 
 use Rattle.std.specs.List.{AllByRecursion}
 use Rattle.std.specs.Result.{MatchResult, is_ok}
 use Rattle.std.specs.Int.Digits.{AllBelowBase}
-use Rattle.std.proofs.ByRecursion.{All-append, All-take}
+use Rattle.std.proofs.lemmas.List.Elements.{All-from_recursion, recursion_from_All, All-append}
 use Rattle.std.proofs.lemmas.Bool.{ltb-false, eqb-false, true≢false}
 use Rattle.ticket.specs.declared.faults.FieldFault.{FieldFault}
 use Rattle.ticket.specs.declared.faults.RecordFault.{RecordFault}
@@ -15,6 +15,7 @@ use Rattle.ticket.specs.declared.seen.Room.{Room}
 use Rattle.ticket.specs.Kinds.{body_in}
 use Rattle.ticket.specs.Numbers.{can_fault, map_err}
 use Rattle.ticket.specs.Refusals.{faults, first_of, unknown, cut, misplaced, twice, high, still, full, miscounted}
+use Rattle.ticket.proofs.Bytes.{under_take}
 use Rattle.ticket.proofs.Codes.{bodies, Known, Known.k1, Known.k2, Known.k3, Known.k4, Known.k5, Known.k6, Known.k7, Known.k15, known, Coded, encode}
 use Rattle.ticket.specs.Reading.{and_then, record_of, framed, ordered, fielded, admitted, stepped}
 
@@ -142,12 +143,12 @@ module _ (room : Room) (c : ℕ → ℕ) (p k : ℕ) (zs : List ℕ) where
         (let o = q.1 in
         let n : Known k = known k (omega (arith, eqb-false (body_in bodies k) 0 o.0)) in
         let l : length xs ≡ body_in bodies k = length-take-le (body_in bodies k) zs (ltb-false (length zs) (body_in bodies k) o.1.0) in
-        let d = encode k n xs l (All-take (λ x. x < 256) (body_in bodies k) zs u) o.1.1.1.1.0 o.1.1.1.1.1.0 in
+        let d = encode k n xs l (under_take (body_in bodies k) zs u) o.1.1.1.1.0 o.1.1.1.1.1.0 in
         let on = laddered ∙ (q.0 ∙ admits room c p k n xs) in
         elim (climb last (Ok (record_of k xs))) [
           | inl t ↦ subst Tells (sym (on ∙ t.1)) (λ ws. skip six (last ++ ws) o ∙ t.2 ws)
           | inr t ↦ subst Tells (sym (on ∙ t.0)) (record {
-            off = All-append Off six last o t.1;
+            off = recursion_from_All Off (six ++ last) (All-append Off six last (All-from_recursion Off six o) (All-from_recursion Off last t.1));
             place = o.1.1.0;
             fresh = o.1.1.1.0;
             free = t.1.0;

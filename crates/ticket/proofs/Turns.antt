@@ -2,7 +2,6 @@
 use Rattle.std.proofs.Common.{◌≡◌, ℕ, ◌+◌, ◌<◌, ◌≤◌, Bool, true, cond, ◌≢◌, List, [], ◌∷◌, ◌++◌, length, take, drop, Some, None, Ok, Err, Result, sym, refl, ap, ◌∙◌, subst, ap₂, append_assoc, append-nil, arith, length-append, length-drop, take-append-drop, drop_at}
 use mathlib.Core.Path.{fun_ext}
 use Rattle.std.specs.Int.Digits.{AllBelowBase, number_from_digits}
-use Rattle.std.proofs.ByRecursion.{All-drop}
 use Rattle.std.proofs.lemmas.List.{nil_from_length}
 use Rattle.std.proofs.lemmas.Bool.{lt-ltb, ltb-false}
 use Rattle.std.proofs.lemmas.Bool.Decides.{nat_tests}
@@ -17,7 +16,7 @@ use Rattle.ticket.specs.Records.{kind, body, written, Fits}
 use Rattle.ticket.specs.Lists.{count, Right, Lawful, Says}
 use Rattle.ticket.specs.Refusals.{misplaced, twice, full, followed, faults, after, wrong, Broken}
 use Rattle.ticket.specs.Reading.{tally, stepped, nothing, noted, answered}
-use Rattle.ticket.proofs.Bytes.{number_big}
+use Rattle.ticket.proofs.Bytes.{under_drop, number_big}
 use Rattle.ticket.proofs.Codes.{bodies, body_length}
 use Rattle.ticket.proofs.Steps.{skip, Passed, Tells, told}
 use Rattle.ticket.proofs.Rights.{Stands, right_none, right_push}
@@ -62,7 +61,7 @@ module _ (room : Room) (bs ys : List ℕ) (s : Seen) (f : Sofar room bs ys s) wh
     bytes_here : AllBelowBase 256 ys
     bytes_here =
         subst (AllBelowBase 256) (ap (drop (length (written f.rs))) f.bytes ∙ drop_at (written f.rs) ys (length (written f.rs)) refl)
-        (All-drop (λ d. d < 256) (length (written f.rs)) bs f.under)
+        (under_drop (length (written f.rs)) bs f.under)
 
     -- what is left behind the record here
     abbrev pub rest : List ℕ
