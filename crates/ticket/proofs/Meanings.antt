@@ -1,5 +1,5 @@
 -- An answer that is true is the only one, so loading answers exactly so.
-use Rattle.std.proofs.Common.{◌≡◌, ℕ, ◌≤◌, List, length, Ok, Err, Result, sym, refl, ap, ◌∙◌, subst, arith}
+use Rattle.std.proofs.Common.{◌≡◌, ℕ, ◌≤◌, List, length, Ok, Err, sym, refl, ap, ◌∙◌, subst, arith}
 use Rattle.std.proofs.lemmas.Bool.{true≢false, false≢true}
 use Rattle.frame.specs.declared.stroke.Stroke.{Stroke}
 use Rattle.ticket.specs.declared.faults.CanFault.{CanFault}
@@ -13,27 +13,12 @@ use Rattle.ticket.proofs.Codes.{bodies, unique}
 use Rattle.ticket.proofs.Fills.{lawful_fits, lawful_room, over_is}
 use Rattle.ticket.proofs.Verdicts.{never, only}
 
-abbrev ok_l : Loaded → Result Loaded CanFault
-ok_l l = Ok l
-
-abbrev err_l : CanFault → Result Loaded CanFault
-err_l e = Err e
-
-err_same : (e f : CanFault) → err_l e ≡ err_l f → e ≡ f
-err_same e f h = cc
-
-ok_err : {l : Loaded} {e : CanFault} → ok_l l ≡ err_l e → ⊥
-ok_err h = let z : ◌≡◌ {A = ℕ} 0 1 = cc in omega arith
-
-ok_same : (l m : Loaded) → ok_l l ≡ ok_l m → l ≡ m
-ok_same l m h = cc
-
 -- for callers: the counts that loading answers lie within the tables
 pub within : (table bs : List ℕ) (ps ps' ts ts' : List Stroke) (l : Loaded) → Loading table bs ps ps' ts ts' (Ok l) → (l.purges ≤ length ps) × (l.tints ≤ length ts)
 within table bs ps ps' ts ts' l h =
     let s = h.lawful refl in
     let d = h.loads s.0 s.1 s.2 in
-    let e = ok_same l d.loaded d.answers in
+    let e : l ≡ d.loaded = cc (d.answers) in
     let r = lawful_room (room_of ps ts) s.0 s.1 in
     (omega (arith, ap (λ (x : Loaded). x.purges) e, d.says.purges, r.0), omega (arith, ap (λ (x : Loaded). x.tints) e, d.says.tints, r.1))
 
@@ -52,7 +37,7 @@ module _ (bs : List ℕ) (ps ts : List Stroke) where
               tints = t ∙ over_is 2 refl room rs law bs w ts;
               says = subst (λ (z : List Record). Says z l) (unique j.0 rs (lawful_fits room j.0 j.1) (lawful_fits room rs law) (j.2 ∙ sym w)) j.3;
             };
-        why = λ e h. absurd (ok_err h);
+        why = λ e h. cc;
         when = λ e h. absurd (never room bs e j.0 h j.1 j.2);
         kept = λ h. absurd (true≢false h);
       }
@@ -63,7 +48,7 @@ module _ (bs : List ℕ) (ps ts : List Stroke) where
       record {
         lawful = λ h. absurd (false≢true h);
         loads = λ rs law w. absurd (never room bs e rs j law w);
-        why = λ f h. subst (Refuses bodies room bs) (err_same e f h) j;
-        when = λ f h. ap err_l (only room bs e f j h);
+        why = λ f h. let e : e ≡ f = cc in subst (Refuses bodies room bs) e j;
+        when = λ f h. ap (λ (x : CanFault). Err x) (only room bs e f j h);
         kept = λ _. (refl, refl);
       }

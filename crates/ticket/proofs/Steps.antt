@@ -1,5 +1,5 @@
 -- The checks of one record, one after another, give the first fault of the list.
-use Rattle.std.proofs.Common.{◌≡◌, ℕ, ◌<◌, Bool, true, false, cond, ◌⊎◌, List, [], ◌∷◌, ◌++◌, length, take, Some, Ok, Err, Result, sym, refl, ap, ◌∙◌, subst, inl, inr, arith, length-take-le}
+use Rattle.std.proofs.Common.{◌≡◌, ℕ, Bool, true, false, cond, ◌⊎◌, List, [], ◌∷◌, ◌++◌, length, take, Some, Ok, Err, Result, sym, refl, ap, ◌∙◌, subst, inl, inr, arith, length-take-le}
 use Rattle.std.specs.List.{AllByRecursion}
 use Rattle.std.specs.Result.{MatchResult, is_ok}
 use Rattle.std.specs.Int.Digits.{AllBelowBase}
@@ -26,11 +26,6 @@ ok_with x = Ok x
 pub before_map : {A E : Type 0} (F : Type 0) (Q : E → Type 0) (r : Result A E) (x : A) → MatchResult r (λ y. ok_with {F = F} x ≡ Ok y) Q → true ≡ is_ok r → r ≡ Ok x
 before_map F Q (Ok y) x m v = cc
 before_map F Q (Err e) x m v = absurd (true≢false v)
-
--- an answer that a layer above passes on was one below
-under : {A E F : Type 0} (f : E → F) (r : Result A E) (x : A) → Ok x ≡ map_err f r → r ≡ Ok x
-under f (Ok y) x h = cc
-under f (Err e) x h = let z : ◌≡◌ {A = ℕ} 0 1 = cc in absurd (omega arith)
 
 module _ (table : List ℕ) (room : Room) (c : ℕ → ℕ) (p k : ℕ) (zs : List ℕ) where
   abbrev pub fielding : ℕ → Result Entry CanFault

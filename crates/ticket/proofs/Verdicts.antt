@@ -1,5 +1,5 @@
 -- For every byte string the answer is fixed.
-use Rattle.std.proofs.Common.{◌≡◌, ℕ, ◌+◌, ◌^◌, ◌<◌, ◌≤◌, List, [], ◌∷◌, ◌++◌, length, get_or, Some, None, Option, sym, refl, ap, ◌∙◌, subst, ap₂, inl, inr, append_assoc, arith, length-append}
+use Rattle.std.proofs.Common.{◌≡◌, ℕ, ◌+◌, ◌^◌, ◌<◌, ◌≤◌, List, [], ◌∷◌, ◌++◌, length, get_or, None, Option, sym, refl, ap, ◌∙◌, subst, ap₂, inl, inr, append_assoc, arith, length-append}
 use Rattle.std.proofs.lemmas.Bool.Decides.{nat_tests}
 use Rattle.ticket.specs.declared.faults.CanFault.{CanFault}
 use Rattle.ticket.specs.declared.record.Record.{Record}
@@ -27,12 +27,6 @@ wrong_at room rs ys = wrong bodies room (λ k. count k rs) (length (written rs))
 
 no_end : (rs : List Record) (r : Record) (ss : List Record) → count 15 (rs ++ (r ∷ ss)) ≡ 0 → kind r ≡ 15 → ⊥
 no_end rs r ss h e = let a = count_append 15 rs (r ∷ ss) in grind (arith, nat_tests)
-
-some_none : (o : Option CanFault) (e : CanFault) → o ≡ None → o ≡ Some e → ⊥
-some_none o e a b = let z : ◌≡◌ {A = ℕ} 0 1 = cc in omega arith
-
-some_same : (o : Option CanFault) (e f : CanFault) → o ≡ Some e → o ≡ Some f → e ≡ f
-some_same o e f a b = cc
 
 -- nothing is wrong where right records go on
 goes_on : (room : Room) (rs ss : List Record) (ys zs : List ℕ) → Longer rs ss ys zs → Right room ss → wrong_at room rs ys ≡ None
@@ -64,8 +58,8 @@ never room bs e ss (inr b) l w =
     let n : ℕ = count 2 l.inner + count 3 l.inner in
     let same : written b.rs ++ b.ys ≡ written l.inner ++ (15 ∷ (big 2 n ++ [])) = sym b.bytes ∙ (sym w ∙ (ap written l.ends ∙ written_append l.inner (End n ∷ []))) in
     elim (fork b.rs l.inner b.ys (15 ∷ (big 2 n ++ [])) b.right.fits l.right.fits same) [
-      | inl q ↦ some_none (wrong_at room b.rs b.ys) e (ap₂ (wrong_at room) q.0 q.1 ∙ at_end room ss l) b.wrong
-      | inr (inl q) ↦ some_none (wrong_at room b.rs b.ys) e (goes_on room b.rs l.inner b.ys (15 ∷ (big 2 n ++ [])) q l.right) b.wrong
+      | inl q ↦ cc (ap₂ (wrong_at room) q.0 q.1 ∙ at_end room ss l, b.wrong)
+      | inr (inl q) ↦ cc (goes_on room b.rs l.inner b.ys (15 ∷ (big 2 n ++ [])) q l.right, b.wrong)
       | inr (inr q) ↦ no_end l.inner q.next q.rest (ap (count 15) (sym q.list) ∙ b.right.unended) (ap (λ (xs : List ℕ). get_or xs 0 0) (sym q.left))
     ]
 
@@ -76,7 +70,7 @@ only room bs e f (inl q) (inr d) = absurd (omega (arith, q.0, d.short))
 only room bs e f (inr b) (inl r) = absurd (omega (arith, r.0, b.short))
 only room bs e f (inr b) (inr d) =
     elim (fork b.rs d.rs b.ys d.ys b.right.fits d.right.fits (sym b.bytes ∙ d.bytes)) [
-      | inl q ↦ some_same (wrong_at room d.rs d.ys) e f (sym (ap₂ (wrong_at room) q.0 q.1) ∙ b.wrong) d.wrong
-      | inr (inl q) ↦ absurd (some_none (wrong_at room b.rs b.ys) e (goes_on room b.rs d.rs b.ys d.ys q d.right) b.wrong)
-      | inr (inr q) ↦ absurd (some_none (wrong_at room d.rs d.ys) f (goes_on room d.rs b.rs d.ys b.ys q b.right) d.wrong)
+      | inl q ↦ cc (ap₂ (wrong_at room) q.0 q.1, b.wrong, d.wrong)
+      | inr (inl q) ↦ cc (goes_on room b.rs d.rs b.ys d.ys q d.right, b.wrong)
+      | inr (inr q) ↦ cc (goes_on room d.rs b.rs d.ys b.ys q b.right, d.wrong)
     ]
