@@ -30,7 +30,6 @@ pub data Known : ℕ → Type 0 where
   k15 : Known 15
 
 pub known : (k : ℕ) → 0 < body_in bodies k → Known k
-known zero b = absurd (not-suc-le-zero b)
 known (suc zero) b = k1
 known (suc (suc zero)) b = k2
 known (suc (suc (suc zero))) b = k3
@@ -38,15 +37,8 @@ known (suc (suc (suc (suc zero)))) b = k4
 known (suc (suc (suc (suc (suc zero))))) b = k5
 known (suc (suc (suc (suc (suc (suc zero)))))) b = k6
 known (suc (suc (suc (suc (suc (suc (suc zero))))))) b = k7
-known (suc (suc (suc (suc (suc (suc (suc (suc zero)))))))) b = absurd (not-suc-le-zero b)
-known (suc (suc (suc (suc (suc (suc (suc (suc (suc zero))))))))) b = absurd (not-suc-le-zero b)
-known (suc (suc (suc (suc (suc (suc (suc (suc (suc (suc zero)))))))))) b = absurd (not-suc-le-zero b)
-known (suc (suc (suc (suc (suc (suc (suc (suc (suc (suc (suc zero))))))))))) b = absurd (not-suc-le-zero b)
-known (suc (suc (suc (suc (suc (suc (suc (suc (suc (suc (suc (suc zero)))))))))))) b = absurd (not-suc-le-zero b)
-known (suc (suc (suc (suc (suc (suc (suc (suc (suc (suc (suc (suc (suc zero))))))))))))) b = absurd (not-suc-le-zero b)
-known (suc (suc (suc (suc (suc (suc (suc (suc (suc (suc (suc (suc (suc (suc zero)))))))))))))) b = absurd (not-suc-le-zero b)
 known (suc (suc (suc (suc (suc (suc (suc (suc (suc (suc (suc (suc (suc (suc (suc zero))))))))))))))) b = k15
-known (suc (suc (suc (suc (suc (suc (suc (suc (suc (suc (suc (suc (suc (suc (suc (suc k)))))))))))))))) b = absurd (not-suc-le-zero b)
+known _ b = absurd (not-suc-le-zero b)
 
 pub body_length : (r : Record) → length (body r) ≡ body_in bodies (kind r)
 body_length (Head c n) = omega (arith, length-append (big 4 c) (big 2 n), big_length 4 c, big_length 2 n)
@@ -60,23 +52,11 @@ body_length (End n) = big_length 2 n
 
 pub body_some : (r : Record) → (0 < body_in bodies (kind r)) × (kind r < 16)
 body_some (Head c n) = omega arith
-body_some (Tint x) = omega arith
-body_some (Purge x) = omega arith
-body_some (Resume n) = omega arith
-body_some (Limit n) = omega arith
-body_some (Every s) = omega arith
-body_some (First n) = omega arith
-body_some (End n) = omega arith
+body_some _ = omega arith
 
 pub end_of : (r : Record) → kind r ≡ 15 → (n : ℕ) × (r ≡ End n)
-end_of (Head c n) e = absurd (omega arith)
-end_of (Tint x) e = absurd (omega arith)
-end_of (Purge x) e = absurd (omega arith)
-end_of (Resume n) e = absurd (omega arith)
-end_of (Limit n) e = absurd (omega arith)
-end_of (Every s) e = absurd (omega arith)
-end_of (First n) e = absurd (omega arith)
 end_of (End n) e = (n, refl)
+end_of _ e = absurd (omega arith)
 
 -- the numbers in two bytes, in four bytes before two, and the stride of a number above 0
 two : (n : ℕ) → n < 2 ^ 16 → number_from_digits 256 (take 2 (big 2 n)) ≡ n

@@ -8,7 +8,7 @@ use Rattle.std.proofs.lemmas.List.{nil_from_length}
 use Rattle.std.proofs.lemmas.Bool.{eq-eqb, eqb-true, ne_eqb}
 use Rattle.frame.specs.declared.stroke.Stroke.{Stroke}
 use Rattle.ticket.specs.declared.record.Record.{Record}
-use Rattle.ticket.specs.declared.record.Record.TheVariants.{Head, Tint, Purge, Resume, Limit, Every, First, End}
+use Rattle.ticket.specs.declared.record.Record.TheVariants.{Tint, Purge, End}
 use Rattle.ticket.specs.declared.seen.Room.{Room}
 use Rattle.ticket.specs.Kinds.{body_in}
 use Rattle.ticket.specs.Records.{kind, body, written, Fits}
@@ -77,14 +77,9 @@ unfolding strokes_in
 strokes_in-nil k = refl
 
 stroke_read : (r : Record) → Fits r → body_in bodies (kind r) ≡ 3 → stroke_in (body r) ≡ stroke r
-stroke_read (Head c n) f e = absurd (omega arith)
 stroke_read (Tint x) f e = ap stroke (decode (Tint x) f)
 stroke_read (Purge x) f e = ap stroke (decode (Purge x) f)
-stroke_read (Resume n) f e = absurd (omega arith)
-stroke_read (Limit n) f e = absurd (omega arith)
-stroke_read (Every s) f e = absurd (omega arith)
-stroke_read (First n) f e = absurd (omega arith)
-stroke_read (End n) f e = absurd (omega arith)
+stroke_read _ f e = absurd (omega arith)
 
 keep_read : (b : Bool) (k : ℕ) (r : Record) → Fits r → body_in bodies k ≡ 3 → eqb (kind r) k ≡ b → (xs : List Stroke) → keep b (stroke_in (body r)) xs ≡ keep b (stroke r) xs
 keep_read true k r f e q xs = ap (λ (x : Stroke). x ∷ xs) (stroke_read r f (ap (body_in bodies) (eqb-true (kind r) k q) ∙ e))

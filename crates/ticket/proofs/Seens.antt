@@ -3,7 +3,7 @@ use Rattle.std.proofs.Common.{◌≡◌, ℕ, zero, suc, ◌+◌, Bool, cond, eq
 use Rattle.std.proofs.lemmas.Bool.{cases_eq, eq-eqb, ne_eqb}
 use Rattle.cursor.specs.declared.stride.Stride.{Stride}
 use Rattle.ticket.specs.declared.record.Record.{Record}
-use Rattle.ticket.specs.declared.record.Record.TheVariants.{Head, Tint, Purge, Resume, Limit, Every, First, End}
+use Rattle.ticket.specs.declared.record.Record.TheVariants.{Every}
 use Rattle.ticket.specs.declared.seen.Room.{Room}
 use Rattle.ticket.specs.declared.seen.Seen.{Seen}
 use Rattle.ticket.specs.Records.{kind}
@@ -35,14 +35,8 @@ said_push f k d [] r = refl
 said_push f k d (x ∷ rs) r = said_push f k (cond (eqb (kind x) k) (f x) d) rs r
 
 stride_push : (r : Record) (d : Stride) → (stride_or r d).steps ≡ cond (eqb (kind r) 6) (says r) d.steps
-stride_push (Head c n) d = refl
-stride_push (Tint x) d = refl
-stride_push (Purge x) d = refl
-stride_push (Resume n) d = refl
-stride_push (Limit n) d = refl
 stride_push (Every s) d = refl
-stride_push (First n) d = refl
-stride_push (End n) d = refl
+stride_push _ d = refl
 
 module _ (s : Seen) (rs : List Record) (r : Record) (h : Holds s rs) where
   counted : (k : ℕ) → tally (noted bodies s r) k ≡ count k (rs ++ (r ∷ []))

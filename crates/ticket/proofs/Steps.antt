@@ -16,7 +16,7 @@ use Rattle.ticket.specs.Kinds.{body_in}
 use Rattle.ticket.specs.Numbers.{can_fault, map_err}
 use Rattle.ticket.specs.Refusals.{faults, first_of, unknown, cut, misplaced, twice, high, still, full, miscounted}
 use Rattle.ticket.proofs.Bytes.{under_take}
-use Rattle.ticket.proofs.Codes.{bodies, Known, Known.k1, Known.k2, Known.k3, Known.k4, Known.k5, Known.k6, Known.k7, Known.k15, known, Coded, encode}
+use Rattle.ticket.proofs.Codes.{bodies, Known, Known.k1, known, Coded, encode}
 use Rattle.ticket.specs.Reading.{and_then, record_of, framed, ordered, fielded, admitted, stepped}
 
 abbrev ok_with : {A F : Type 0} → A → Result A F
@@ -86,13 +86,7 @@ last_of room c p k xs = (full room c k, can_fault 8 p) ∷ (miscounted c k xs, c
 -- what the last two checks ask of the record is what they ask of its bytes
 admits : (room : Room) (c : ℕ → ℕ) (p k : ℕ) → Known k → (xs : List ℕ) → admitted room c p (record_of k xs) ≡ ladder (last_of room c p k xs) (Ok (record_of k xs))
 admits room c p k k1 xs = refl
-admits room c p k k2 xs = refl
-admits room c p k k3 xs = refl
-admits room c p k k4 xs = refl
-admits room c p k k5 xs = refl
-admits room c p k k6 xs = refl
-admits room c p k k7 xs = refl
-admits room c p k k15 xs = refl
+admits room c p k _ xs = refl
 
 module _ (room : Room) (c : ℕ → ℕ) (p k : ℕ) (zs : List ℕ) where
   abbrev xs : List ℕ

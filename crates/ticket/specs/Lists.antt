@@ -22,24 +22,13 @@ says (End n) = n
 -- the can's number that a head says
 abbrev pub can_of : Record → ℕ
 can_of (Head c n) = c
-can_of (Tint x) = 0
-can_of (Purge x) = 0
-can_of (Resume n) = 0
-can_of (Limit n) = 0
-can_of (Every s) = 0
-can_of (First n) = 0
-can_of (End n) = 0
+can_of _ = 0
 
 -- the stroke that a tint or a purge says
 abbrev pub stroke : Record → Stroke
-stroke (Head c n) = record { valve = 0; volume = 0 }
 stroke (Tint x) = x
 stroke (Purge x) = x
-stroke (Resume n) = record { valve = 0; volume = 0 }
-stroke (Limit n) = record { valve = 0; volume = 0 }
-stroke (Every s) = record { valve = 0; volume = 0 }
-stroke (First n) = record { valve = 0; volume = 0 }
-stroke (End n) = record { valve = 0; volume = 0 }
+stroke _ = record { valve = 0; volume = 0 }
 
 -- how many records of kind k there are
 abbrev pub is : ℕ → Record → ℕ
@@ -60,14 +49,10 @@ strokes k rs = map stroke (filter (λ r. kind r == k) rs)
 
 -- the machine has canisters 0 to 15, with a valve each; a stride is never 0 by its type
 abbrev pub Allowed : Record → Type 0
-Allowed (Head c n) = ⊤
 Allowed (Tint x) = x.valve ≤ 15
 Allowed (Purge x) = x.valve ≤ 15
-Allowed (Resume n) = ⊤
-Allowed (Limit n) = ⊤
-Allowed (Every s) = ⊤
 Allowed (First n) = n ≤ 15
-Allowed (End n) = ⊤
+Allowed _ = ⊤
 
 -- a head first and only there
 abbrev pub Headed : List Record → Type 0

@@ -102,14 +102,8 @@ nothing room = record {
 }
 
 abbrev pub stride_or : Entry → Stride → Stride
-stride_or (Head c n) d = d
-stride_or (Tint x) d = d
-stride_or (Purge x) d = d
-stride_or (Resume n) d = d
-stride_or (Limit n) d = d
 stride_or (Every s) d = s
-stride_or (First n) d = d
-stride_or (End n) d = d
+stride_or _ d = d
 
 -- what records say, the last of them r
 abbrev pub saying : Loaded → Entry → Loaded

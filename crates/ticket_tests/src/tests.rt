@@ -107,6 +107,47 @@ fn layers_are_held_whole(rt: HostRuntime) {
     );
 }
 
+// What each refusal says; a fault that holds another says what that one says.
+#[test]
+fn meanings(rt: HostRuntime) -> Result<(), Fail> {
+    let told = [
+        (CanFault::TooLong(32768), "A ticket has at most 32768 bytes"),
+        (
+            CanFault::Misplaced(0),
+            "The first record is not a head, or a later one is",
+        ),
+        (CanFault::Twice(0), "A setting stands a second time"),
+        (CanFault::Full(0), "The stroke's table has no free entry"),
+        (
+            CanFault::Count(0),
+            "The end's number is not the number of strokes before it",
+        ),
+        (CanFault::After(0), "There are bytes after the end record"),
+        (CanFault::NoEnd(0), "There is no end record"),
+        (
+            CanFault::Record(RecordFault::Unknown, 0),
+            "No record has this kind",
+        ),
+        (
+            CanFault::Record(RecordFault::Cut, 0),
+            "The record's body runs past the end of the ticket",
+        ),
+        (
+            CanFault::Record(RecordFault::Field(FieldFault::ZeroStride), 0),
+            "The label stride is 0",
+        ),
+        (
+            CanFault::Record(RecordFault::Field(FieldFault::High), 0),
+            "A valve or canister is above 15",
+        ),
+    ];
+    for (fault, meaning) in told {
+        let text = format!(in rt.alloc(); "{fault}")?;
+        assert_eq!(rt; text.as_str(), meaning);
+    }
+    Ok(())
+}
+
 // A table that is exactly full is fine; one stroke more gets 8.
 #[test]
 fn full_tables(rt: HostRuntime) {
