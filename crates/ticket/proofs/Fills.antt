@@ -1,10 +1,9 @@
 -- The strokes of a lawful ticket, as they are read and written to the tables.
-use Rattle.std.proofs.Common.{◌≡◌, ℕ, zero, suc, ◌+◌, ◌≤◌, Bool, true, false, cond, eqb, ◌≢◌, slice_index, List, [], ◌∷◌, ◌++◌, length, take, drop, set, sym, refl, ap, ◌∙◌, subst, ap₂, zero-add, add-one, arith, length-append, length-drop, length-set, take_at, drop_at}
+use Rattle.std.proofs.Common.{◌≡◌, ℕ, zero, suc, ◌+◌, ◌≤◌, Bool, true, false, cond, eqb, ◌≢◌, slice_index, List, [], ◌∷◌, ◌++◌, length, take, drop, sym, refl, ap, ◌∙◌, subst, ap₂, zero-add, arith, length-append, length-drop, take_at, drop_at}
 use lib.Seq.{sets, sets-eq}
 use Rattle.std.specs.List.{All, filter}
 use mathlib.Core.List.{map}
 use Rattle.std.proofs.lemmas.List.Elements.{All-head, All-tail, All-push}
-use Rattle.std.proofs.lemmas.List.{nil_from_length}
 use Rattle.std.proofs.lemmas.Bool.{eq-eqb, eqb-true, ne_eqb}
 use Rattle.frame.specs.declared.stroke.Stroke.{Stroke}
 use Rattle.ticket.specs.declared.record.Record.{Record}
@@ -132,15 +131,6 @@ pub record Filling (all xs old now : List Stroke) (i : ℕ) : Type 0 where
 
 pub filling_none : (all old : List Stroke) → length all ≤ length old → Filling all all old old 0
 filling_none all old h = record { fills = sets-eq all old 0 (omega arith) ∙ ap (λ (n : ℕ). all ++ drop n old) (zero-add (length all)); room = omega arith }
-
-pub filling_on : (all xs old now : List Stroke) (i : ℕ) (x : Stroke) (ys : List Stroke) → Filling all xs old now i → xs ≡ x ∷ ys → Filling all ys old (set now i x) (i + 1)
-filling_on all xs old now i x ys f e = record {
-  fills = ap (λ (j : ℕ). sets (set now i x) j ys) (add-one i) ∙ (sym (ap (sets now i) e) ∙ f.fills);
-  room = omega (arith, f.room, ap length e, length-set now i x);
-}
-
-pub filling_done : (all xs old now : List Stroke) (i : ℕ) → Filling all xs old now i → length xs ≡ 0 → now ≡ over all old
-filling_done all xs old now i f e = ap (sets now i) (sym (nil_from_length xs e)) ∙ f.fills
 
 -- for a kind of strokes in the bytes of a lawful ticket
 module _ (k : ℕ) (three : body_in bodies k ≡ 3) (room : Room) (rs : List Record) (l : Lawful room rs) (bs : List ℕ) (w : written rs ≡ bs) where

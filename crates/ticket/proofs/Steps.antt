@@ -1,10 +1,9 @@
 -- The checks of one record, one after another, give the first fault of the list.
 use Rattle.std.proofs.Common.{◌≡◌, ℕ, Bool, true, false, cond, ◌⊎◌, List, [], ◌∷◌, ◌++◌, length, take, Some, Ok, Err, Result, sym, refl, ap, ◌∙◌, subst, inl, inr, arith, length-take-le}
 use Rattle.std.specs.List.{AllByRecursion}
-use Rattle.std.specs.Result.{MatchResult, is_ok}
 use Rattle.std.specs.Int.Digits.{AllBelowBase}
 use Rattle.std.proofs.lemmas.List.Elements.{All-from_recursion, recursion_from_All, All-append}
-use Rattle.std.proofs.lemmas.Bool.{ltb-false, eqb-false, true≢false}
+use Rattle.std.proofs.lemmas.Bool.{ltb-false, eqb-false}
 use Rattle.ticket.specs.declared.faults.FieldFault.{FieldFault}
 use Rattle.ticket.specs.declared.faults.RecordFault.{RecordFault}
 use Rattle.ticket.specs.declared.faults.RecordFault.TheVariants.{Field}
@@ -17,15 +16,7 @@ use Rattle.ticket.specs.Numbers.{can_fault, map_err}
 use Rattle.ticket.specs.Refusals.{faults, first_of, unknown, cut, misplaced, twice, high, still, full, miscounted}
 use Rattle.ticket.proofs.Bytes.{under_take}
 use Rattle.ticket.proofs.Codes.{bodies, Known, Known.k1, known, Coded, encode}
-use Rattle.ticket.specs.Reading.{and_then, record_of, framed, ordered, fielded, admitted, stepped}
-
-abbrev ok_with : {A F : Type 0} → A → Result A F
-ok_with x = Ok x
-
--- an answer that `map_err` passes on was one before
-pub before_map : {A E : Type 0} (F : Type 0) (Q : E → Type 0) (r : Result A E) (x : A) → MatchResult r (λ y. ok_with {F = F} x ≡ Ok y) Q → true ≡ is_ok r → r ≡ Ok x
-before_map F Q (Ok y) x m v = cc
-before_map F Q (Err e) x m v = absurd (true≢false v)
+use Rattle.ticket.specs.Reading.{and_then, record_of, ordered, fielded, admitted, stepped}
 
 module _ (table : List ℕ) (room : Room) (c : ℕ → ℕ) (p k : ℕ) (zs : List ℕ) where
   abbrev pub fielding : ℕ → Result Entry CanFault
@@ -33,15 +24,6 @@ module _ (table : List ℕ) (room : Room) (c : ℕ → ℕ) (p k : ℕ) (zs : Li
 
   abbrev pub ordering : ℕ → Result Entry CanFault
   ordering n = and_then (ordered c p k) (λ _. fielding n)
-
-  -- the answer of the last check is that of all, where those before it passed
-  pub passes : (n : ℕ) (r : Entry) (v : Result Entry CanFault)
-      → framed table k zs ≡ Ok n → ordered c p k ≡ Ok tt → map_err Field (fielded k (take n zs)) ≡ Ok r
-      → v ≡ admitted room c p r → v ≡ stepped table room c p k zs
-  passes n r v a b d e =
-      e ∙ sym (ap (λ (w : Result ℕ RecordFault). and_then (map_err (λ f. Record f p) w) ordering) a
-      ∙ (ap (λ (w : Result (Unit {0}) CanFault). and_then w (λ _. fielding n)) b
-      ∙ ap (λ (w : Result Entry RecordFault). and_then (map_err (λ f. Record f p) w) (λ q. admitted room c p q)) d))
 
 -- a check that found nothing
 abbrev pub Off : Bool × CanFault → Type 0
