@@ -46,6 +46,7 @@ fn fill(kind: u8, bytes: &[u8], table: &mut [Stroke])
     ensures { table.new ≡ over (strokes_in BODIES kind bytes.now) table.old }
 {
     let mut strokes = Strokes { kind, rest: bytes };
+    // not `iter_mut().zip(strokes)`: tried, and then nothing is known of what the entries hold
     for entry in table {
         let Some(stroke) = strokes.next() else {
             break;

@@ -3,10 +3,13 @@ ghost use Rattle.std.specs.Prelude.{◌≡◌, ◌^◌, ◌<◌};
 ghost use Rattle.ticket.specs.Records.{kind};
 ghost use Rattle.ticket.specs.Reading.{tally, nothing, noted, answered};
 
-use crate::kinds::{BODIES, PURGE, TINT, body_len};
+use crate::kinds::{BODIES, END, PURGE, TINT, body_len};
 use crate::loaded::Loaded;
 use crate::record::Record;
 use cursor::stride::Stride;
+
+// The kinds of records lie below it.
+const KINDS: usize = END as usize + 1;
 
 // How many entries the two tables have.
 #[derive(Clone, Copy, Debug, PartialEq, Eq)]
@@ -22,7 +25,7 @@ pub struct Seen {
     // where the next record begins
     pub place: usize,
     // how many there are of each kind
-    counts: [usize; 16],
+    counts: [usize; KINDS],
     // what they say, but for the number of strokes, which is in the counts
     said: Loaded,
 }
@@ -35,7 +38,7 @@ impl Seen {
         Seen {
             room,
             place: 0,
-            counts: [0; 16],
+            counts: [0; KINDS],
             said: Loaded {
                 purges: 0,
                 tints: 0,
@@ -51,7 +54,7 @@ impl Seen {
 
     // How many records there are of this kind.
     pub fn count(&self, kind: u8) -> usize
-        requires { kind < 16 }
+        requires { kind < KINDS }
         ensures { result ≡ tally self.now kind }
     {
         self.counts[kind as usize]

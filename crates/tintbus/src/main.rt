@@ -23,15 +23,10 @@ const NONE: Stroke = Stroke {
 
 // Reads a file into the buffer, until the one ends or the other is full, and answers the bytes that came.
 fn read_into<'a>(file: &mut File, buf: &'a mut [u8]) -> io::Result<&'a [u8]> {
-    let mut n = 0;
-    while n < buf.len() {
-        let got = file.read(&mut buf[n..])?;
-        if got == 0 {
-            break;
-        }
-        n += got;
-    }
-    Ok(&buf[..n])
+    let mut free = &mut *buf;
+    let came = io::copy(&mut file.take(free.len() as u64), &mut free)? as usize;
+    // `copy` does not promise that no more came than `take` lets through
+    Ok(&buf[..came.min(buf.len())])
 }
 
 fn main(rt: HostRuntime) -> io::Result<ExitCode> {
