@@ -8,6 +8,7 @@ use Rattle.cursor.specs.declared.stride.Stride.{Stride}
 use Rattle.cursor.proofs.NonZero.{stride, same_stride}
 use Rattle.ticket.specs.declared.record.Record.{Record}
 use Rattle.ticket.specs.declared.record.Record.TheVariants.{Head, Tint, Purge, Resume, Limit, Every, First, End}
+use Rattle.ticket.specs.declared.kinds.TheConstants.{BODIES}
 use Rattle.ticket.specs.Kinds.{body_in}
 use Rattle.ticket.specs.Records.{big, kind, body, written, Fits, Unambiguous}
 use Rattle.ticket.specs.Lists.{Allowed}
@@ -17,7 +18,7 @@ use Rattle.ticket.proofs.Bytes.{under_take, under_drop, big_length, big_number, 
 
 -- the table that the code has
 abbrev pub bodies : List ℕ
-bodies = 6 ∷ 3 ∷ 3 ∷ 8 ∷ 8 ∷ 8 ∷ 1 ∷ 0 ∷ 0 ∷ 0 ∷ 0 ∷ 0 ∷ 0 ∷ 0 ∷ 2 ∷ []
+bodies = BODIES
 
 pub data Known : ℕ → Type 0 where
   k1 : Known 1

@@ -66,8 +66,7 @@ fn content(kind: u8, body: &[u8]) -> Result<Record, RecordFault>
     requires body_nonzero { 0 < length body.now }
     ensures { result ≡ map_err Field (fielded kind body.now) }
 {
-    let record = field(kind, body)?;
-    Ok(record)
+    Ok(field(kind, body)?)
 }
 
 impl Seen {
@@ -103,9 +102,10 @@ impl Seen {
         requires { tally self.now TINT + tally self.now PURGE < 2 ^ 32 }
         ensures { result ≡ stepped BODIES self.now.room (tally self.now) self.now.place kind tail.now }
     {
-        let len = frame(kind, tail).map_err(|fault| (fault, self.place))?;
+        let placed = |fault: RecordFault| (fault, self.place);
+        let len = frame(kind, tail).map_err(placed)?;
         self.order(kind)?;
-        let record = content(kind, &tail[..len]).map_err(|fault| (fault, self.place))?;
+        let record = content(kind, &tail[..len]).map_err(placed)?;
         self.admit(record)
     }
 }
