@@ -60,7 +60,7 @@ fn field(kind: u8, body: &[u8]) -> Result<Record, FieldFault>
     }
 }
 
-// The same as a record's answer.
+// The same with the fault as a record's: `?` wraps it.
 fn content(kind: u8, body: &[u8]) -> Result<Record, RecordFault>
     requires body_value { length body.now ≡ body_in BODIES kind }
     requires body_nonzero { 0 < length body.now }

@@ -134,7 +134,8 @@ impl CanFault {
     }
 }
 
-// A fault's number and place give back the fault: no two faults have both in common.
+// A fault's number and place give back the fault: no two faults have both in common. It is a function so that a contract
+// promises it.
 pub fn numbers_stand()
     ensures { Numbered }
 {}

@@ -20,7 +20,8 @@ pub const FIRST: u8 = 0x07;
 
 pub const END: u8 = 0x0F;
 
-// The mark of an unknown kind: no known record has an empty body.
+// The mark of an unknown kind: no known record has an empty body. No `Option` here, so that reader and promises share
+// one array of plain lengths.
 pub const UNKNOWN: u8 = 0;
 
 // The body's length for each kind from HEAD to END. Reader and promises have it from here.

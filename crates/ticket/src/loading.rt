@@ -71,7 +71,8 @@ pub fn load(bytes: &[u8], purges: &mut [Stroke], tints: &mut [Stroke]) -> Result
     Ok(loaded)
 }
 
-// Two lists of records with the same writing are the same list.
+// Two lists of records with the same writing are the same list. It and the next are functions so that contracts promise
+// what they say.
 pub fn unambiguous()
     ensures { Unambiguous }
 {}
