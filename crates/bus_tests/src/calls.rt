@@ -9,7 +9,7 @@ use std::process::Abort;
 #[derive(Clone, Copy)]
 pub(crate) enum Call {
     /// party, call and n of a put, and its receipt's bytes
-    // (unnamed, so that each call is one line of a table)
+    /// (unnamed, so that each call is one line of a table)
     Put(u8, u8, u64, &'static [u8]),
     /// an exchange's frame, and how often it touches the leaves
     Exchange(&'static [u8], u64),

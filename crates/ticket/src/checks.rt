@@ -1,4 +1,4 @@
-// The checks of one record, in their order.
+//! The checks of one record, in their order.
 ghost use Rattle.std.specs.Prelude.{◌≡◌, ◌+◌, ◌^◌, ◌<◌, length};
 ghost use Rattle.std.specs.Int.Digits.{number_from_digits};
 ghost use Rattle.ticket.specs.declared.faults.RecordFault.TheVariants.{Field};
@@ -16,10 +16,10 @@ use byteorder::{BigEndian, ByteOrder};
 use cursor::stride::Stride;
 use frame::stroke::Stroke;
 
-// The machine has canisters 0 to 15, with a valve each.
+/// The machine has canisters 0 to 15, with a valve each.
 const TOP: u8 = 15;
 
-// A stroke's body.
+/// A stroke's body.
 pub fn stroke(body: &[u8]) -> Stroke
     requires { length body.now ≡ 3 }
     ensures { result ≡ stroke_in body.now }
@@ -30,7 +30,7 @@ pub fn stroke(body: &[u8]) -> Stroke
     }
 }
 
-// How long the body is, of a record that is known and whole; `tail` is all that stands behind the kind byte.
+/// How long the body is, of a record that is known and whole; `tail` is all that stands behind the kind byte.
 fn frame(kind: u8, tail: &[u8]) -> Result<usize, RecordFault>
     ensures { result ≡ framed BODIES kind tail.now }
 {
@@ -41,7 +41,7 @@ fn frame(kind: u8, tail: &[u8]) -> Result<usize, RecordFault>
     }
 }
 
-// What a whole record says.
+/// What a whole record says.
 fn field(kind: u8, body: &[u8]) -> Result<Record, FieldFault>
     requires body_value { length body.now ≡ body_in BODIES kind }
     requires body_nonzero { 0 < length body.now }
@@ -60,7 +60,7 @@ fn field(kind: u8, body: &[u8]) -> Result<Record, FieldFault>
     }
 }
 
-// The same with the fault as a record's: `?` wraps it.
+/// The same with the fault as a record's: `?` wraps it.
 fn content(kind: u8, body: &[u8]) -> Result<Record, RecordFault>
     requires body_value { length body.now ≡ body_in BODIES kind }
     requires body_nonzero { 0 < length body.now }
@@ -70,7 +70,7 @@ fn content(kind: u8, body: &[u8]) -> Result<Record, RecordFault>
 }
 
 impl Seen {
-    // Whether a record of this kind may stand here: a head first and only there, and each setting once.
+    /// Whether a record of this kind may stand here: a head first and only there, and each setting once.
     fn order(&self, kind: u8) -> Result<(), CanFault>
         ensures { result ≡ ordered (tally self.now) self.now.place kind }
     {
@@ -83,7 +83,7 @@ impl Seen {
         }
     }
 
-    // The record, if a stroke's table has room for it, and an end's number is that of the strokes so far.
+    /// The record, if a stroke's table has room for it, and an end's number is that of the strokes so far.
     fn admit(&self, record: Record) -> Result<Record, CanFault>
         requires { tally self.now TINT + tally self.now PURGE < 2 ^ 32 }
         ensures { result ≡ admitted self.now.room (tally self.now) self.now.place «record» }
@@ -97,7 +97,7 @@ impl Seen {
         }
     }
 
-    // The record that stands behind those seen so far, or its first fault.
+    /// The record that stands behind those seen so far, or its first fault.
     pub fn next(&self, kind: u8, tail: &[u8]) -> Result<Record, CanFault>
         requires { tally self.now TINT + tally self.now PURGE < 2 ^ 32 }
         ensures { result ≡ stepped BODIES self.now.room (tally self.now) self.now.place kind tail.now }

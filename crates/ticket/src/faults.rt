@@ -1,4 +1,4 @@
-// Why a ticket is refused: three layers, each held whole by the next, and the number of each refusal.
+//! Why a ticket is refused: three layers, each held whole by the next, and the number of each refusal.
 ghost use Rattle.std.specs.Prelude.{◌≡◌};
 ghost use Rattle.ticket.specs.declared.faults.FieldFault.TheVariants.{ZeroStride};
 ghost use Rattle.ticket.specs.declared.faults.RecordFault.TheVariants.{Field};
@@ -9,7 +9,7 @@ use cursor::stride::StrideFault;
 use refusal::Refusal;
 use thiserror::Error;
 
-// A field holds what the machine does not have.
+/// A field holds what the machine does not have.
 #[derive(Clone, Copy, Debug, PartialEq, Eq, Error)]
 pub enum FieldFault {
     #[error("The label stride is 0")]
@@ -18,7 +18,7 @@ pub enum FieldFault {
     High = 7,
 }
 
-// One record cannot be read.
+/// One record cannot be read.
 #[derive(Clone, Copy, Debug, PartialEq, Eq, Error)]
 pub enum RecordFault {
     #[error("No record has this kind")]
@@ -29,10 +29,10 @@ pub enum RecordFault {
     Field(FieldFault),
 }
 
-// The ticket is no can's. Each case holds its place in the ticket: of the faulty record's kind byte if nothing else is said.
+/// The ticket is no can's. Each case holds its place in the ticket: of the faulty record's kind byte if nothing else is said.
 #[derive(Clone, Copy, Debug, PartialEq, Eq, Error)]
 pub enum CanFault {
-    // the place is the limit
+    /// the place is the limit
     #[error("A ticket has at most {0} bytes")]
     TooLong(usize),
     #[error("The first record is not a head, or a later one is")]
@@ -43,10 +43,10 @@ pub enum CanFault {
     Full(usize),
     #[error("The end's number is not the number of strokes before it")]
     Count(usize),
-    // the place is that of the first byte after the end
+    /// the place is that of the first byte after the end
     #[error("There are bytes after the end record")]
     After(usize),
-    // the place is the ticket's length
+    /// the place is the ticket's length
     #[error("There is no end record")]
     NoEnd(usize),
     #[error("{0}")]
@@ -71,7 +71,7 @@ impl From<FieldFault> for RecordFault {
     }
 }
 
-// A record's fault comes with the record's place.
+/// A record's fault comes with the record's place.
 impl From<(RecordFault, usize)> for CanFault {
     ghost from_gives = { λ f r. r ≡ Record f.0 f.1 };
 
@@ -134,8 +134,8 @@ impl CanFault {
     }
 }
 
-// A fault's number and place give back the fault: no two faults have both in common. It is a function so that a contract
-// promises it.
+/// A fault's number and place give back the fault: no two faults have both in common. It is a function so that a contract
+/// promises it.
 pub fn numbers_stand()
     ensures { Numbered }
 {}

@@ -1,4 +1,4 @@
-// The kinds of a ticket's records, and the length of the body of each.
+//! The kinds of a ticket's records, and the length of the body of each.
 ghost use Rattle.std.specs.Prelude.{◌≡◌};
 ghost use Rattle.ticket.specs.Kinds.{body_in};
 
@@ -12,19 +12,19 @@ pub const RESUME: u8 = 0x04;
 
 pub const LIMIT: u8 = 0x05;
 
-// the label's stride
+/// the label's stride
 pub const STRIDE: u8 = 0x06;
 
-// the first canister to stir
+/// the first canister to stir
 pub const FIRST: u8 = 0x07;
 
 pub const END: u8 = 0x0F;
 
-// The mark of an unknown kind: no known record has an empty body. No `Option` here, so that reader and promises share
-// one array of plain lengths.
+/// The mark of an unknown kind: no known record has an empty body. No `Option` here, so that reader and promises share
+/// one array of plain lengths.
 pub const UNKNOWN: u8 = 0;
 
-// The body's length for each kind from HEAD to END. Reader and promises have it from here.
+/// The body's length for each kind from HEAD to END. Reader and promises have it from here.
 pub const BODIES: [u8; 15] = [
     6, // HEAD
     3, // TINT

@@ -1,4 +1,4 @@
-// Tickets: loaded entire, or refused by a number with everything left as it was.
+//! Tickets: loaded entire, or refused by a number with everything left as it was.
 
 #![tactic(auto)]
 

@@ -1,4 +1,4 @@
-// Loads a ticket entire, or refuses it and leaves everything as it was.
+//! Loads a ticket entire, or refuses it and leaves everything as it was.
 ghost use Rattle.std.specs.Prelude.{◌≡◌, ◌≤◌, length};
 ghost use Rattle.ticket.specs.Records.{Unambiguous};
 ghost use Rattle.ticket.specs.Samples.{Samples};
@@ -13,15 +13,15 @@ use crate::seen::{Room, Seen};
 use crate::strokes::Strokes;
 use frame::stroke::Stroke;
 
-// A ticket has at most so many bytes.
-pub const LIMIT: usize = 32768;
+/// A ticket has at most so many bytes.
+pub const LONGEST: usize = 32768;
 
-// What a ticket says, or its first fault. Writes nothing.
+/// What a ticket says, or its first fault. Writes nothing.
 fn judge(bytes: &[u8], room: Room) -> Result<Loaded, CanFault>
     ensures { Judged BODIES room bytes.now result }
 {
-    if bytes.len() > LIMIT {
-        return Err(CanFault::TooLong(LIMIT));
+    if bytes.len() > LONGEST {
+        return Err(CanFault::TooLong(LONGEST));
     }
     let mut seen = Seen::new(room);
     let mut rest = bytes;
@@ -39,7 +39,7 @@ fn judge(bytes: &[u8], room: Room) -> Result<Loaded, CanFault>
     Err(CanFault::NoEnd(bytes.len()))
 }
 
-// Writes the strokes of one kind of a lawful ticket to the start of their table.
+/// Writes the strokes of one kind of a lawful ticket to the start of their table.
 fn fill(kind: u8, bytes: &[u8], table: &mut [Stroke])
     requires whole { Whole BODIES kind bytes.now }
     requires room { length (strokes_in BODIES kind bytes.now) ≤ length table.old }
@@ -55,8 +55,8 @@ fn fill(kind: u8, bytes: &[u8], table: &mut [Stroke])
     }
 }
 
-// Loads a ticket: its purges and tints go to the starts of their tables, in ticket order, and the answer is what else it
-// says. A ticket that is not lawful is refused, and both tables stay as they were.
+/// Loads a ticket: its purges and tints go to the starts of their tables, in ticket order, and the answer is what else it
+/// says. A ticket that is not lawful is refused, and both tables stay as they were.
 pub fn load(bytes: &[u8], purges: &mut [Stroke], tints: &mut [Stroke]) -> Result<Loaded, CanFault>
     ensures { Loading BODIES bytes.now
         purges.old purges.new tints.old tints.new result }
@@ -71,13 +71,13 @@ pub fn load(bytes: &[u8], purges: &mut [Stroke], tints: &mut [Stroke]) -> Result
     Ok(loaded)
 }
 
-// Two lists of records with the same writing are the same list. It and the next are functions so that contracts promise
-// what they say.
+/// Two lists of records with the same writing are the same list. It and the next are functions so that contracts promise
+/// what they say.
 pub fn unambiguous()
     ensures { Unambiguous }
 {}
 
-// The worked examples of the format's pages, on the definitions.
+/// The worked examples of the format's pages, on the definitions.
 pub fn samples_stand()
     ensures { Samples BODIES }
 {}

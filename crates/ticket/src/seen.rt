@@ -1,4 +1,4 @@
-// What the reader has seen of a ticket so far.
+//! What the reader has seen of a ticket so far.
 ghost use Rattle.std.specs.Prelude.{◌≡◌, ◌^◌, ◌<◌};
 ghost use Rattle.ticket.specs.Records.{kind};
 ghost use Rattle.ticket.specs.Reading.{tally, nothing, noted, answered};
@@ -8,30 +8,30 @@ use crate::loaded::Loaded;
 use crate::record::Record;
 use cursor::stride::Stride;
 
-// The kinds of records lie below it.
+/// The kinds of records lie below it.
 const KINDS: usize = END as usize + 1;
 
-// How many entries the two tables have.
+/// How many entries the two tables have.
 #[derive(Clone, Copy, Debug, PartialEq, Eq)]
 pub struct Room {
     pub purges: usize,
     pub tints: usize,
 }
 
-// What the records so far say, and the room that they are loaded into.
+/// What the records so far say, and the room that they are loaded into.
 #[derive(Clone, Copy, Debug)]
 pub struct Seen {
     pub room: Room,
-    // where the next record begins
+    /// where the next record begins
     pub place: usize,
-    // how many there are of each kind
+    /// how many there are of each kind
     counts: [usize; KINDS],
-    // what they say, but for the number of strokes, which is in the counts
+    /// what they say, but for the number of strokes, which is in the counts
     said: Loaded,
 }
 
 impl Seen {
-    // No record yet: each setting is what a ticket without it means.
+    /// No record yet: each setting is what a ticket without it means.
     pub fn new(room: Room) -> Seen
         ensures { result ≡ nothing room }
     {
@@ -52,7 +52,7 @@ impl Seen {
         }
     }
 
-    // How many records there are of this kind.
+    /// How many records there are of this kind.
     pub fn count(&self, kind: u8) -> usize
         requires { kind < KINDS }
         ensures { result ≡ tally self.now kind }
@@ -60,7 +60,7 @@ impl Seen {
         self.counts[kind as usize]
     }
 
-    // One record more.
+    /// One record more.
     pub fn note(&mut self, record: Record)
         requires few { tally self.old (kind «record») < 2 ^ 32 }
         requires near { self.old.place < 2 ^ 32 }

@@ -1,9 +1,9 @@
-// The strokes of one kind in the bytes of a lawful ticket.
+//! The strokes of one kind in the bytes of a lawful ticket.
 use crate::checks::stroke;
 use crate::kinds::{BODIES, body_len};
 use frame::stroke::Stroke;
 
-// The strokes of one kind that are still to come, in ticket order.
+/// The strokes of one kind that are still to come, in ticket order.
 #[derive(Drop)]
 pub struct Strokes<'a> {
     pub kind: u8,

@@ -1,5 +1,5 @@
-// Loads each ticket of tickets.bin and prints the answer, one line a ticket. What it must print was written by another
-// reading of the format, in Python: tools/README.md says how.
+//! Loads each ticket of tickets.bin and prints the answer, one line a ticket. What it must print was written by another
+//! reading of the format, in Python: tools/README.md says how.
 
 #![tactic(auto)]
 
@@ -16,10 +16,10 @@ use ticket::loading::load;
 
 const TABLE_ENTRIES: usize = 8192;
 
-// Before a case: six bytes, the entries of the two tables and the ticket's length.
+/// Before a case: six bytes, the entries of the two tables and the ticket's length.
 const CASE_HEAD: usize = 6;
 
-// A ticket, and how many entries of the tables it is loaded into.
+/// A ticket, and how many entries of the tables it is loaded into.
 #[derive(Clone, Copy)]
 struct Case<'a> {
     ticket: &'a [u8],
@@ -27,7 +27,7 @@ struct Case<'a> {
     tint_entries: usize,
 }
 
-// The cases that stand in these bytes, one behind the other.
+/// The cases that stand in these bytes, one behind the other.
 #[derive(Drop)]
 struct Cases<'a> {
     rest: &'a [u8],
@@ -51,7 +51,7 @@ impl<'a> Iterator for Cases<'a> {
     }
 }
 
-// What entry i of a table holds before a ticket is loaded: no ticket has such a valve.
+/// What entry i of a table holds before a ticket is loaded: no ticket has such a valve.
 fn mark(i: usize) -> Stroke {
     Stroke {
         valve: 200,
@@ -65,7 +65,7 @@ fn reset(table: &mut [Stroke]) {
     }
 }
 
-// Whether all entries from `start` on are as `reset` left them.
+/// Whether all entries from `start` on are as `reset` left them.
 fn is_kept(table: &[Stroke], start: usize) -> bool {
     table
         .iter()
@@ -74,7 +74,7 @@ fn is_kept(table: &[Stroke], start: usize) -> bool {
         .all(|(i, entry)| *entry == mark(i))
 }
 
-// A number that tells the first `count` strokes of a table and their order.
+/// A number that tells the first `count` strokes of a table and their order.
 fn hash(table: &[Stroke], count: usize) -> u64 {
     table.iter().take(count).fold(0u64, |hash, stroke| {
         let entry = u64::from(stroke.valve) * 65536 + u64::from(stroke.volume);
@@ -82,7 +82,7 @@ fn hash(table: &[Stroke], count: usize) -> u64 {
     })
 }
 
-// The two tables that a ticket is loaded into.
+/// The two tables that a ticket is loaded into.
 #[derive(Drop)]
 struct Tables<'a> {
     purges: &'a mut [Stroke],
@@ -90,7 +90,7 @@ struct Tables<'a> {
 }
 
 impl Tables<'_> {
-    // Loads one ticket and prints the answer; true if it was loaded.
+    /// Loads one ticket and prints the answer; true if it was loaded.
     fn replay(&mut self, rt: &impl Print, ticket: &[u8]) -> io::Result<bool> {
         reset(self.purges);
         reset(self.tints);
@@ -131,7 +131,7 @@ impl Tables<'_> {
         )
     }
 
-    // What became of the entries behind the first ones of each table.
+    /// What became of the entries behind the first ones of each table.
     fn later(&self, purges: usize, tints: usize) -> &'static str {
         if is_kept(self.purges, purges) && is_kept(self.tints, tints) {
             "kept"

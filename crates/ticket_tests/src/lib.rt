@@ -1,4 +1,4 @@
-// Tickets as a newcomer would try them. Many more are replayed by the crate ticket_replay.
+//! Tickets as a newcomer would try them. Many more are replayed by the crate ticket_replay.
 
 #![tactic(auto)]
 

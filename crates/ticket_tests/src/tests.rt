@@ -9,11 +9,11 @@ const NONE: Stroke = Stroke {
     volume: 9999,
 };
 
-// The worked example: can 7 of 1000 ml, a purge, two tints, every second tint on the label.
+/// The worked example: can 7 of 1000 ml, a purge, two tints, every second tint on the label.
 const SAMPLE: &[u8] =
     b"\x01\x00\x00\x00\x07\x03\xE8\x03\x05\x00\x0A\x02\x01\x00\x64\x02\x02\x00\xC8\x06\x00\x00\x00\x00\x00\x00\x00\x02\x0F\x00\x03";
 
-// Tickets that are refused, with the number and the place: the smallest input for each number, and the edges beside it.
+/// Tickets that are refused, with the number and the place: the smallest input for each number, and the edges beside it.
 const REFUSED: [(&[u8], u8, usize); 20] = [
     (b"", 11, 0),
     (b"\x0F\x00\x00", 5, 0),
@@ -107,7 +107,7 @@ fn layers_are_held_whole(rt: HostRuntime) {
     );
 }
 
-// What each refusal says; a fault that holds another says what that one says.
+/// What each refusal says; a fault that holds another says what that one says.
 #[test]
 fn meanings(rt: HostRuntime) -> Result<(), Fail> {
     let told = [
@@ -148,7 +148,7 @@ fn meanings(rt: HostRuntime) -> Result<(), Fail> {
     Ok(())
 }
 
-// A table that is exactly full is fine; one stroke more gets 8.
+/// A table that is exactly full is fine; one stroke more gets 8.
 #[test]
 fn full_tables(rt: HostRuntime) {
     assert_eq!(rt; load(SAMPLE, &mut [NONE; 1], &mut [NONE; 2]).err(), None);
@@ -162,7 +162,7 @@ fn full_tables(rt: HostRuntime) {
     );
 }
 
-// 32768 bytes are read, and found unlawful for another reason; 32769 are not.
+/// 32768 bytes are read, and found unlawful for another reason; 32769 are not.
 #[test]
 fn lengths(rt: HostRuntime) {
     let zeros = [0; 32769];
@@ -176,7 +176,7 @@ fn lengths(rt: HostRuntime) {
     );
 }
 
-// A good ticket that is cut at any byte is refused, with 4 or 11.
+/// A good ticket that is cut at any byte is refused, with 4 or 11.
 #[test]
 fn every_cut(rt: HostRuntime) -> Result<(), Fail> {
     for n in 0..SAMPLE.len() {

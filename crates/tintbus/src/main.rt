@@ -1,4 +1,4 @@
-// Reads ticket.bin in the folder where it is started, loads it, and says in plain words what it holds or why it is refused.
+//! Reads ticket.bin in the folder where it is started, loads it, and says in plain words what it holds or why it is refused.
 
 #![tactic(auto)]
 
@@ -7,12 +7,12 @@ use std::fs::File;
 use std::io;
 use std::io::Read;
 use std::process::ExitCode;
-use ticket::loading::{LIMIT, load};
+use ticket::loading::{LONGEST, load};
 
 mod words;
 
-// One byte more than a ticket may have shows that there are more.
-const TICKET_BYTES: usize = LIMIT + 1;
+/// One byte more than a ticket may have shows that there are more.
+const TICKET_BYTES: usize = LONGEST + 1;
 
 const TABLE_ENTRIES: usize = 8192;
 
@@ -21,7 +21,7 @@ const NONE: Stroke = Stroke {
     volume: 0,
 };
 
-// Reads a file into the buffer, until the one ends or the other is full, and answers the bytes that came.
+/// Reads a file into the buffer, until the one ends or the other is full, and answers the bytes that came.
 fn read_into<'a>(file: &mut File, buf: &'a mut [u8]) -> io::Result<&'a [u8]> {
     let mut free = &mut *buf;
     let came = io::copy(&mut file.take(free.len() as u64), &mut free)? as usize;

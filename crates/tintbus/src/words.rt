@@ -1,4 +1,4 @@
-// What a ticket holds, and why it is refused, in plain words.
+//! What a ticket holds, and why it is refused, in plain words.
 use frame::stroke::Stroke;
 use refusal::Refusal;
 use std::io::Print;
@@ -6,7 +6,7 @@ use std::{fmt, io};
 use ticket::faults::{CanFault, RecordFault};
 use ticket::loaded::Loaded;
 
-// A volume in hundredths of a ml, shown in ml.
+/// A volume in hundredths of a ml, shown in ml.
 #[derive(Clone, Copy)]
 struct Ml(u16);
 
@@ -24,7 +24,7 @@ pub(crate) fn show_settings(rt: &impl Print, loaded: &Loaded) -> io::Result<()> 
     println!(rt; "First canister to stir: {}.", loaded.first)
 }
 
-// One table's strokes, in ticket order.
+/// One table's strokes, in ticket order.
 pub(crate) fn show_strokes(rt: &impl Print, title: &str, strokes: &[Stroke]) -> io::Result<()> {
     println!(rt; "{title}: {}.", strokes.len())?;
     for stroke in strokes {
@@ -43,7 +43,7 @@ pub(crate) fn show_refusal(rt: &impl Print, fault: CanFault) -> io::Result<()> {
     println!(rt; "{fault}.")
 }
 
-// The layers that a fault goes through, the outermost first.
+/// The layers that a fault goes through, the outermost first.
 fn layers(fault: CanFault) -> &'static str {
     match fault {
         CanFault::Record(RecordFault::Field(_), _) => "can, record, field",
