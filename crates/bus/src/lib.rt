@@ -75,6 +75,7 @@ impl<V: TwoEnded<Item: Framed>, L: TwoEnded<Item: Framed>, S: Cursor<Item: Frame
 
     /// Serves the lowest party that waits: frees its place, makes its call, writes the frame at the start of out, leaves the
     /// rest, and answers the frame's length.
+    // That the line is as before is said by each function that is lent it: no invariant can speak of two moments.
     pub fn exchange(&mut self, line: &mut Line, out: &mut [u8]) -> Result<usize, Fault>
         ensures line { line.new ≡ line.old }
         ensures done { ExchangeSays V.Cursor L.Cursor S.Cursor V.Item.Framed L.Item.Framed S.Item.Framed self.old out.old result out.new self.new }

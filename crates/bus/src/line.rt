@@ -17,6 +17,7 @@ impl Line {
         Line { on: Party::Valve }
     }
 
+    /// The party whose device is switched on.
     pub fn device(&self) -> Party
         ensures { result ≡ self.now.on }
     {

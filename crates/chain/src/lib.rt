@@ -25,6 +25,7 @@ pub struct Chain<L, R> {
 }
 
 impl<L: TwoEnded, R: TwoEnded<Item = L::Item>> Chain<L, R> {
+    /// The items of `a`, then those of `b`.
     pub fn new(a: L, b: R) -> Chain<L, R>
         ensures row { chain_row L.Cursor.row R.Cursor.row result ≡ first (2 ^ 64 - 1) (join (L.Cursor.row a) (R.Cursor.row b)) }
         ensures home { chain_home L.Cursor.home R.Cursor.home result ≡ first (2 ^ 64 - 1) (join (L.Cursor.home a) (R.Cursor.home b)) }

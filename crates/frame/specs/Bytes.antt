@@ -2,7 +2,8 @@
 use Rattle.std.specs.Prelude.{List, [], ◌∷◌, ◌++◌, ℕ, ◌/◌, ◌%◌, ◌^◌, length, drop}
 
 -- A number in two bytes and in eight, the most significant first. The first byte takes all that is left, so that equal
--- bytes mean equal numbers, however large; of a number that fits it is a byte like the others.
+-- bytes mean equal numbers, however large; of a number that fits it is a byte like the others. Both
+-- are written out, and not one for every width, so that the check computes them.
 abbrev pub be2 : ℕ → List ℕ
 be2 n = n / 2 ^ 8 ∷ n % 2 ^ 8 ∷ []
 

@@ -21,6 +21,7 @@ pub struct Skip<C> {
 }
 
 impl<C: Cursor> Skip<C> {
+    /// The items of `iter` without the first n.
     pub fn new(iter: C, n: u64) -> Skip<C>
         ensures row { skip_row C.Cursor.row result ≡ after n (C.Cursor.row iter) }
         ensures home { skip_home C.Cursor.home result ≡ after n (C.Cursor.home iter) }

@@ -21,6 +21,7 @@ pub struct Take<C> {
 }
 
 impl<C: Cursor> Take<C> {
+    /// The first n items of `iter`.
     pub fn new(iter: C, n: u64) -> Take<C>
         ensures row { take_row C.Cursor.row result ≡ first n (C.Cursor.row iter) }
         ensures home { take_home C.Cursor.home result ≡ first n (C.Cursor.home iter) }

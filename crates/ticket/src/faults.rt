@@ -118,6 +118,7 @@ impl Refusal for CanFault {
 }
 
 impl CanFault {
+    /// Where in the ticket.
     pub fn place(self) -> usize
         ensures { result ≡ can_place self }
     {

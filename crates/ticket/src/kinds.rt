@@ -43,6 +43,7 @@ pub const BODIES: [u8; 15] = [
     2, // END
 ];
 
+/// The length of the body of a record of this kind; `UNKNOWN` if no record has it.
 pub fn body_len(kind: u8) -> u8
     ensures { result ≡ body_in BODIES kind }
 {

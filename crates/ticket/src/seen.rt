@@ -24,7 +24,7 @@ pub struct Seen {
     pub room: Room,
     /// where the next record begins
     pub place: usize,
-    /// how many there are of each kind
+    /// how many there are of each kind: an array and no map, since loading takes no heap
     counts: [usize; KINDS],
     /// what they say, but for the number of strokes, which is in the counts
     said: Loaded,

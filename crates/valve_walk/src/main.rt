@@ -21,8 +21,8 @@ fn main(rt: HostRuntime) -> io::Result<()> {
     let mut tints = [none; 4];
     match load(SAMPLE, &mut purges, &mut tints) {
         Ok(loaded) => {
-            let purges = &purges[0..loaded.purges];
-            let tints = &tints[0..loaded.tints];
+            let purges = &purges[..loaded.purges];
+            let tints = &tints[..loaded.tints];
             walk::show_valve_row(&rt, purges, tints, loaded.resume, loaded.limit)
         }
         Err(_) => println!(rt; "The sample is refused."),

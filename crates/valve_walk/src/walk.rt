@@ -22,6 +22,7 @@ pub(crate) fn show_valve_row(
     show_from_back(rt, &mut pile)
 }
 
+// This and the next are two functions and not one that is given the call: each loop ends because its own call takes an item.
 #[tactic(auto, using(cursor::proofs::Laws::sizes, cursor::proofs::Laws::places))]
 fn show_from_front<C: TwoEnded<Item = Stroke>>(rt: &HostRuntime, pile: &mut C) -> io::Result<()> {
     println!(rt; "Valve row, from the front: {}.", pile.len())?;

@@ -11,6 +11,8 @@ use crate::span::{Span, touched};
 use crate::{Cursor, Homing, TwoEnded};
 
 impl CountLeaf {
+    /// The numbers from lo up to hi - 1.
+    // Clauses and no invariants say how a fresh leaf is, here and in the slice leaf: its first call changes that.
     pub fn new(lo: u64, hi: u64) -> Self
         ensures row { count_row result ≡ window lo hi numbers }
         ensures home { count_home result ≡ window lo hi numbers }

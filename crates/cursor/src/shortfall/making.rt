@@ -17,6 +17,7 @@ impl Shortfall {
         }
     }
 
+    /// The number of places; named as in NonZero, so no `From`.
     pub fn get(self) -> u64
         ensures { result ≡ self.places }
     {

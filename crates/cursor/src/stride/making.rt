@@ -25,6 +25,7 @@ impl Stride {
         Stride { steps: 1 }
     }
 
+    /// The number of steps; named as in NonZero, so no `From`.
     pub fn get(self) -> u64
         ensures { result ≡ self.steps }
     {
