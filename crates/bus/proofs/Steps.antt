@@ -1,6 +1,7 @@
 -- One call of a bus: its promise from what the code's own calls promise.
 use Rattle.std.proofs.Common.{◌≡◌, ℕ, ◌≤◌, true, List, length, Some, None, Ok, Option, Result, ok_or, sym, refl, ap, ◌∙◌, subst, ap₂, arith}
 use mathlib.Core.Path.{fun_ext}
+use Rattle.std.specs.Option.{option_map}
 use Rattle.std.proofs.lemmas.Bool.Decides.{nat_tests}
 use Rattle.cursor.specs.Rows.{Closed, Length, size}
 use Rattle.cursor.specs.declared.Cursor as Cursor
@@ -14,7 +15,7 @@ use Rattle.bus.specs.declared.request.Call.{Call}
 use Rattle.bus.specs.declared.request.Request.{Request}
 use Rattle.bus.specs.declared.waits.Waits.{Waits}
 use Rattle.bus.specs.Numbers.{number, party_of, has_back, call_of}
-use Rattle.bus.specs.Waiting.{Served, widened_if, waiting, seat, admit_read, kept, told, verdict, turn, freed, asks_of}
+use Rattle.bus.specs.Waiting.{Served, widened, waiting, seat, admit_read, kept, told, verdict, turn, freed, asks_of}
 use Rattle.bus.specs.State.{State, Kinds, rows, framed, Called, CalledIf, PutDone, ExchangeDone, New, pile_of, piles, meant, weights}
 
 -- a new bus: its rows are closed, and those of the valve and the label have an end, since `len` says so
@@ -30,7 +31,7 @@ module _ {V L S A B C : Type 0} (v : Cursor.Ghosts V A) (l : Cursor.Ghosts L B) 
   nobody_waits : w.valve ≡ None → w.label ≡ None → w.stir ≡ None → (p : Party) → waiting w p ≡ None
   nobody_waits a b c Valve = a
   nobody_waits a b c Label = b
-  nobody_waits a b c Stir = ap widened_if c
+  nobody_waits a b c Stir = ap (option_map widened) c
 
   rows_end : (m n : ℕ) → m ≡ size (v.row x) → Length (v.row x) m → n ≡ size (l.row y) → Length (l.row y) n →
       (p : Party) → has_back p ≡ true → Length (rows (meant v l s made) p) (size (rows (meant v l s made) p))

@@ -1,5 +1,5 @@
 -- The law over a bus's whole past.
-use Rattle.std.specs.Prelude.{◌≡◌, ℕ, ◌+◌, ◌-◌, ◌≤◌, true, false, List, [], ◌∷◌, ◌++◌, length, take, is_some, Some, None, Ok, Err, Option, Result}
+use Rattle.std.specs.Prelude.{◌≡◌, ℕ, ◌+◌, ◌-◌, ◌≤◌, true, false, List, [], ◌∷◌, ◌++◌, length, take, is_some, Some, None, Ok, Err, Option, Result, ⊤}
 use Rattle.cursor.specs.Rows.{Row}
 use Rattle.frame.specs.declared.framed.Framed as Framed
 use Rattle.bus.specs.declared.fault.Fault.{Fault}
@@ -71,7 +71,7 @@ ShowsJust {A} g d o r p h = (x : A) → (Handed o r p x → h ≡ item_shown g d
 
 -- so it is of each call and each party
 abbrev pub Shows : {I : Party → Type 0} → Kinds I → Rows I → List Event → Type 0
-Shows k f [] = Unit {0}
+Shows k f [] = ⊤
 Shows k f (e ∷ older) =
     ((p : Party) → ShowsJust (k.framing p) (number p) (asks_of p (whom e older)) (f p) ((run (asks older)).places p) e.heard) × Shows k f older
 
@@ -82,12 +82,12 @@ load w (Some u) = w u.party
 
 -- each call touches the leaves no more often than the weight of the pile that it serves, and not at all if it serves none
 abbrev pub Light : (Party → ℕ) → List Event → Type 0
-Light w [] = Unit {0}
+Light w [] = ⊤
 Light w (e ∷ older) = (e.touches ≤ load w (whom e older)) × Light w older
 
 -- none of the calls `es`, made after `older`, served the valve
 abbrev pub Unserved : List Event → List Event → Type 0
-Unserved [] older = Unit {0}
+Unserved [] older = ⊤
 Unserved (e ∷ es) older = (is_some (asks_of Valve (whom e (es ++ older))) ≡ false) × Unserved es older
 
 -- A valve's request that the call `a` accepted: the calls `between` did not serve it, and `e` is the call after them, which

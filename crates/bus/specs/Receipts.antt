@@ -5,10 +5,10 @@ use Rattle.bus.specs.declared.party.Party.{Party}
 use Rattle.bus.specs.Numbers.{number}
 use Rattle.bus.specs.State.{Written, Denied}
 
--- the frame of a put's answer, where `refused` gives a refusal's number
+-- the frame of a put's answer, where `number_of` gives a refusal's number
 abbrev pub notice : {E : Type 0} → (E → ℕ) → Result Party E → List ℕ
-notice refused (Ok p) = 0x20 ∷ number p ∷ []
-notice refused (Err e) = 0x21 ∷ refused e ∷ []
+notice number_of (Ok p) = 0x20 ∷ number p ∷ []
+notice number_of (Err e) = 0x21 ∷ number_of e ∷ []
 
 -- the frame is written, or, if `out` is too short, nothing is
 pub record Told (frame out : List ℕ) (r : Result ℕ Fault) (out' : List ℕ) : Type 0 where

@@ -1,5 +1,6 @@
 -- The waiting places: what a put does to them, and whose turn it is.
-use Rattle.std.specs.Prelude.{◌≡◌, ℕ, if◌then◌else◌, not, ◌&&◌, is_some, Some, None, Ok, Err, Option, Result}
+use Rattle.std.specs.Prelude.{◌≡◌, ℕ, if◌then◌else◌, not, ◌&&◌, is_some, Some, None, Ok, Err, Option, Result, ⊤}
+use Rattle.std.specs.Option.{option_map}
 use Rattle.bus.specs.declared.party.Party.{Party}
 use Rattle.bus.specs.declared.party.Party.TheVariants.{Valve, Label, Stir}
 use Rattle.bus.specs.declared.fault.Fault.{Fault}
@@ -70,14 +71,10 @@ asks_of p (Some u) = if same p u.party then Some u.request else None
 abbrev pub widened : Request FrontCall → Request Call
 widened q = record { call = whole q.call; n = q.n }
 
-abbrev pub widened_if : Option (Request FrontCall) → Option (Request Call)
-widened_if None = None
-widened_if (Some q) = Some (widened q)
-
 abbrev pub waiting : Waits → Waiting
 waiting w Valve = w.valve
 waiting w Label = w.label
-waiting w Stir = widened_if w.stir
+waiting w Stir = option_map widened w.stir
 
 abbrev pub turn_of : Option Turn → Option Served
 turn_of None = None
@@ -100,6 +97,6 @@ pub record Seated (p : Party) (q : Request Call) (w : Waits) (r : Result Party F
   pub rest : waiting v ≡ kept (seat p q (waiting w)) (waiting w)
 
 -- one waiting place of the code: it takes the request, or it is taken and stays
-pub record Reserved {C : Type 0} (q : Request C) (o : Option (Request C)) (r : Result (Unit {0}) Fault) (m : Option (Request C)) : Type 0 where
+pub record Reserved {C : Type 0} (q : Request C) (o : Option (Request C)) (r : Result ⊤ Fault) (m : Option (Request C)) : Type 0 where
   pub answer : r ≡ (if is_some o then Err Taken else Ok tt)
   pub rest : m ≡ (if is_some o then o else Some q)

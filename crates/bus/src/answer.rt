@@ -40,8 +40,8 @@ pub(crate) fn ask<C: TwoEnded>(pile: &mut C, request: Request<Call>) -> Answer<C
 }
 
 /// Makes one call of a pile that has a front alone.
-// Not one function with `ask`: the bounds differ, and so do the calls, so a trait over both would only move these two bodies
-// into its impls.
+// Not one function with `ask`: the bounds differ, and so do the calls. A trait over both would only move these two bodies into
+// its impls, and a `Call` made of a front and a back part would hide the six calls, which definitions and callers name.
 pub(crate) fn ask_front<C: Cursor>(pile: &mut C, request: Request<FrontCall>) -> Answer<C::Item>
     ensures value { result ≡ answer (widened request) (C.Cursor.row pile.old) }
     ensures called { Called C.Cursor.weight (widened request) (pile_of C.Cursor pile.old) (pile_of C.Cursor pile.new) }

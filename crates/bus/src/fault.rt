@@ -3,7 +3,7 @@ ghost use Rattle.bus.specs.Numbers.{fault_number};
 
 use refusal::Refusal;
 
-/// Each leaves the bus, the line and the buffer as they were.
+/// Why the bus refuses. Each refusal leaves the bus, the line and the buffer as they were.
 #[derive(Clone, Copy, Debug, PartialEq, Eq)]
 pub enum Fault {
     /// the party is not 1 to 3

@@ -37,6 +37,7 @@ use waits::{Turn, Waits};
 /// The least room for a frame: the longest has so many bytes.
 pub const ROOM: usize = 10;
 
+/// A pile and a waiting place for each of the three parties.
 #[derive(Drop)]
 pub struct Bus<V, L, S> {
     waits: Waits,
@@ -45,8 +46,8 @@ pub struct Bus<V, L, S> {
     stir: S,
 }
 
-// Each clause names the ghost members of the three piles and of their items. A model of the bus would save that, but a pile's
-// row is a function, which the value of a model cannot hold.
+// Each clause names the ghost members of the three piles and of their items. A model of the bus would save that; it was tried
+// and is refused, since a pile's row is a function, which the value of a model cannot hold.
 impl<V: TwoEnded<Item: Framed>, L: TwoEnded<Item: Framed>, S: Cursor<Item: Framed>> Bus<V, L, S> {
     /// A bus of three piles, with nobody waiting.
     pub fn new(valve: V, label: L, stir: S) -> Bus<V, L, S>

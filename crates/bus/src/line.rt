@@ -4,6 +4,7 @@ ghost use Rattle.bus.specs.declared.party.Party.TheVariants.{Valve};
 
 use crate::party::Party;
 
+/// Which device is switched on.
 #[derive(Debug, PartialEq, Eq, Drop)]
 pub struct Line {
     pub(crate) on: Party,
@@ -22,14 +23,6 @@ impl Line {
         ensures { result ≡ self.now.on }
     {
         self.on
-    }
-}
-
-impl Default for Line {
-    ghost is_default = { λ line. line.on ≡ Valve };
-
-    fn default() -> Line {
-        Line::new()
     }
 }
 

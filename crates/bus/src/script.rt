@@ -9,7 +9,7 @@ use cursor::{Cursor, TwoEnded};
 use frame::framed::Framed;
 
 /// One call of a bus.
-// A value and no closure, since whoever makes a list of them reads them as data.
+// A value and no closure: the promise speaks of each step, and a list of closures would each hold the bus.
 #[derive(Clone, Copy, Debug, PartialEq, Eq)]
 pub enum Step {
     Put { party: u8, call: u8, n: u64 },

@@ -95,5 +95,4 @@ fn numbers(rt: HostRuntime) {
     assert_eq!(rt; u8::from(Party::Stir), 3);
     assert!(rt; Call::try_from(6) == Ok(Call::AdvanceBack));
     assert!(rt; Call::try_from(7) == Err(Fault::UnknownCall));
-    assert!(rt; Line::default() == Line::new());
 }

@@ -14,6 +14,7 @@ use cursor::shortfall::Shortfall;
 use cursor::shortfall::making::{lacking, short_by};
 use cursor::{Cursor, Homing, TwoEnded};
 
+/// The items of `a`, then those of `b`.
 #[derive(Drop)]
 pub struct Chain<L, R> {
     a: L,
@@ -60,6 +61,7 @@ impl<L: TwoEnded, R: TwoEnded<Item = L::Item>> Cursor for Chain<L, R> {
             return None;
         }
         self.left -= 1;
+        // a `match` and no `or_else`: adapters are asked to have no closures
         match self.a.next() {
             Some(item) => Some(item),
             None => self.b.next(),

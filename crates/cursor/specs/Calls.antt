@@ -1,5 +1,5 @@
 -- What a call may cost, what it keeps, and how an advance answers.
-use Rattle.std.specs.Prelude.{◌≡◌, ℕ, ◌+◌, ◌-◌, ◌^◌, ◌≤◌, min, Ok, Err, Result}
+use Rattle.std.specs.Prelude.{◌≡◌, ℕ, ◌+◌, ◌-◌, ◌^◌, ◌≤◌, min, Ok, Err, Result, ⊤}
 use Rattle.cursor.specs.declared.shortfall.Shortfall.{Shortfall}
 use Rattle.cursor.specs.Rows.{Row}
 
@@ -13,7 +13,7 @@ Touched t t' = t' ≡ capped (t + 1)
 
 -- an adapter's tally is that of the leaves below
 abbrev pub Free : ℕ → ℕ → Type 0
-Free _ _ = Unit {0}
+Free _ _ = ⊤
 
 -- a call of a cursor of weight w: the tally t is not lowered and rises to at most t + w, by a touch, and the home h' is now h
 pub record Spent {A : Type 0} (w : ℕ) (touch : ℕ → ℕ → Type 0) (t t' : ℕ) (h h' : Row A) : Type 0 where
@@ -27,6 +27,6 @@ abbrev pub Spends : {C A : Type 0} → ℕ → (ℕ → ℕ → Type 0) → (C �
 Spends w touch tally home c d = Spent w touch (tally c) (tally d) (home c) (home d)
 
 -- by how many places an advance fell short; 0 if it is done
-abbrev pub lack : Result (Unit {0}) Shortfall → ℕ
+abbrev pub lack : Result ⊤ Shortfall → ℕ
 lack (Ok _) = 0
 lack (Err s) = s.places

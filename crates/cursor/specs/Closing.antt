@@ -13,6 +13,7 @@ pub first_out : {A : Type 0} (n : ℕ) (r : Row A) (k : ℕ) → n ≤ k → fir
 unfolding first
 first_out n r k h = cond-false (nat_lt k n) (r k) None (le-ltb k n h)
 
+-- so a cursor with no home of its own keeps the law of homes
 pub closed_bare : {A : Type 0} → Closed (bare {A = A})
 unfolding bare
 closed_bare = record { shut = λ k e. refl }

@@ -1,5 +1,5 @@
 -- Rows: at each place 0, 1, 2 and on an item or nothing.
-use Rattle.std.specs.Prelude.{◌≡◌, ℕ, zero, suc, ◌+◌, ◌-◌, ◌^◌, ◌<◌, ◌≤◌, true, cond, is_some, Some, None, Option, nat_lt}
+use Rattle.std.specs.Prelude.{◌≡◌, ℕ, zero, suc, ◌+◌, ◌-◌, ◌^◌, ◌<◌, ◌≤◌, true, if◌then◌else◌, is_some, Some, None, Option, nat_lt}
 
 abbrev pub Row : Type 0 → Type 0
 Row A = ℕ → Option A
@@ -23,7 +23,7 @@ after n r k = r (n + k)
 
 -- the first n places of a row
 unfoldable pub first : {A : Type 0} → ℕ → Row A → Row A
-first n r k = cond (nat_lt k n) (r k) None
+first n r k = if nat_lt k n then r k else None
 
 abbrev pub one : {A : Type 0} → Option A → ℕ
 one None = 0
@@ -40,7 +40,7 @@ size r = taken r (2 ^ 64 - 1)
 
 -- the item at place n from the back, in a row of l items
 unfoldable pub back_at : {A : Type 0} → ℕ → Row A → ℕ → Option A
-back_at l r n = cond (nat_lt n l) (r (l - (n + 1))) None
+back_at l r n = if nat_lt n l then r (l - (n + 1)) else None
 
 abbrev pub back : {A : Type 0} → Row A → ℕ → Option A
 back r n = back_at (size r) r n
@@ -51,7 +51,7 @@ window lo hi r = first (hi - lo) (after lo r)
 
 -- one row behind another: the first l places of r, then t
 unfoldable pub join_at : {A : Type 0} → ℕ → Row A → Row A → Row A
-join_at l r t k = cond (nat_lt k l) (r k) (t (k - l))
+join_at l r t k = if nat_lt k l then r k else t (k - l)
 
 abbrev pub join : {A : Type 0} → Row A → Row A → Row A
 join r t = join_at (size r) r t

@@ -1,5 +1,5 @@
 -- The bounds of a leaf, and what they show of a row.
-use Rattle.std.specs.Prelude.{ℕ, ◌+◌, ◌-◌, min, cond, Some, None, Option, nat_lt}
+use Rattle.std.specs.Prelude.{ℕ, ◌+◌, ◌-◌, min, if◌then◌else◌, Some, None, Option, nat_lt}
 use Rattle.cursor.specs.declared.span.Span.{Span}
 use Rattle.cursor.specs.Rows.{Row, window}
 
@@ -8,10 +8,10 @@ abbrev pub shown : {A : Type 0} → Row A → Span → Row A
 shown r s = window s.lo s.hi r
 
 abbrev pub place_at : Span → ℕ → Option ℕ
-place_at s n = cond (nat_lt n (s.hi - s.lo)) (Some (s.lo + n)) None
+place_at s n = if nat_lt n (s.hi - s.lo) then Some (s.lo + n) else None
 
 abbrev pub place_back : Span → ℕ → Option ℕ
-place_back s n = cond (nat_lt n (s.hi - s.lo)) (Some (s.hi - (n + 1))) None
+place_back s n = if nat_lt n (s.hi - s.lo) then Some (s.hi - (n + 1)) else None
 
 -- without the first n places, or with none left; and from the back
 abbrev pub cut_front : ℕ → Span → Span

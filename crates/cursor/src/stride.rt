@@ -4,6 +4,7 @@ ghost use Rattle.std.specs.Prelude.{◌<◌};
 
 pub mod making;
 
+/// A number of places that is never 0.
 #[derive(Clone, Copy, Debug, PartialEq, Eq)]
 pub struct Stride {
     steps: u64,

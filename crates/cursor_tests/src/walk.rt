@@ -10,12 +10,8 @@ const SAMPLE: &[u8] =
 /// The tints of a loaded ticket, from both ends.
 #[test]
 fn loaded_tints(rt: HostRuntime) -> Result<(), Fail> {
-    let none = Stroke {
-        valve: 0,
-        volume: 0,
-    };
-    let mut purges = [none; 4];
-    let mut tints = [none; 4];
+    let mut purges = [Stroke::default(); 4];
+    let mut tints = [Stroke::default(); 4];
     let loaded = load(SAMPLE, &mut purges, &mut tints)?;
     let mut leaf = SliceLeaf::part(&tints, 0, loaded.tints as u64);
     assert_eq!(rt; leaf.len(), 2);

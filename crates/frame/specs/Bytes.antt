@@ -12,6 +12,6 @@ be8 n =
     n / 2 ^ 56 ∷ (n / 2 ^ 48) % 2 ^ 8 ∷ (n / 2 ^ 40) % 2 ^ 8 ∷ (n / 2 ^ 32) % 2 ^ 8
     ∷ (n / 2 ^ 24) % 2 ^ 8 ∷ (n / 2 ^ 16) % 2 ^ 8 ∷ (n / 2 ^ 8) % 2 ^ 8 ∷ n % 2 ^ 8 ∷ []
 
--- new bytes at the start of the old ones, whose rest stays
-abbrev pub over : List ℕ → List ℕ → List ℕ
+-- new bytes, or other items, at the start of the old ones, whose rest stays
+abbrev pub over : {A : Type 0} → List A → List A → List A
 over new old = new ++ drop (length new) old

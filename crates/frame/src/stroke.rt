@@ -6,7 +6,7 @@ ghost use Rattle.std.proofs.Common.{rules};
 use crate::framed::Framed;
 
 /// One stroke: how much paint one valve lets out.
-#[derive(Clone, Copy, Debug, PartialEq, Eq)]
+#[derive(Clone, Copy, Debug, Default, PartialEq, Eq)]
 pub struct Stroke {
     /// the canister's valve, 0 to 15 in every ticket that loads
     pub valve: u8,

@@ -11,6 +11,7 @@ use cursor::shortfall::Shortfall;
 use cursor::shortfall::making::{lacking, short_by};
 use cursor::{Cursor, Homing, TwoEnded};
 
+/// The items of `iter` without the first n.
 #[derive(Drop)]
 pub struct Skip<C> {
     iter: C,
@@ -98,6 +99,7 @@ impl<C: TwoEnded> TwoEnded for Skip<C> {
     }
 
     fn next_back(&mut self) -> Option<C::Item> {
+        // here and below the cursor below is asked, and not `self.len()`: tried, and the proof of what is left did not close
         if self.iter.len() > self.n {
             self.iter.next_back()
         } else {

@@ -11,6 +11,7 @@ use cursor::shortfall::Shortfall;
 use cursor::shortfall::making::{lacking, short_by};
 use cursor::{Cursor, Homing, TwoEnded};
 
+/// The first n items of `iter`.
 #[derive(Drop)]
 pub struct Take<C> {
     iter: C,

@@ -12,7 +12,8 @@ use Rattle.ticket.specs.declared.seen.Room.{Room}
 use Rattle.ticket.specs.Kinds.{body_in}
 use Rattle.ticket.specs.Records.{kind, body, written, Fits}
 use Rattle.ticket.specs.Lists.{stroke, is, count, strokes, Lawful}
-use Rattle.ticket.specs.Loading.{over, filled}
+use Rattle.frame.specs.Bytes.{over}
+use Rattle.ticket.specs.Loading.{filled}
 use Rattle.ticket.specs.Reading.{stroke_in, strokes_within, strokes_in, Whole}
 use Rattle.ticket.proofs.Codes.{bodies, body_length, decode}
 use Rattle.ticket.proofs.Rights.{count_append}

@@ -7,7 +7,8 @@ use Rattle.ticket.specs.declared.record.Record.{Record}
 use Rattle.ticket.specs.declared.loaded.Loaded.{Loaded}
 use Rattle.ticket.specs.Lists.{Says}
 use Rattle.ticket.specs.Refusals.{Refuses}
-use Rattle.ticket.specs.Loading.{room_of, over, Loading, Judged}
+use Rattle.frame.specs.Bytes.{over}
+use Rattle.ticket.specs.Loading.{room_of, Loading, Judged}
 use Rattle.ticket.specs.Reading.{strokes_in}
 use Rattle.ticket.proofs.Codes.{bodies, unique}
 use Rattle.ticket.proofs.Fills.{lawful_fits, lawful_room, over_is}

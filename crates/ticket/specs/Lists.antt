@@ -49,10 +49,14 @@ strokes k rs = map stroke (filter (λ r. kind r == k) rs)
 
 -- the machine has canisters 0 to 15, with a valve each; a stride is never 0 by its type
 abbrev pub Allowed : Record → Type 0
+Allowed (Head c n) = ⊤
 Allowed (Tint x) = x.valve ≤ 15
 Allowed (Purge x) = x.valve ≤ 15
+Allowed (Resume n) = ⊤
+Allowed (Limit n) = ⊤
+Allowed (Every s) = ⊤
 Allowed (First n) = n ≤ 15
-Allowed _ = ⊤
+Allowed (End n) = ⊤
 
 -- a head first and only there
 abbrev pub Headed : List Record → Type 0

@@ -16,10 +16,6 @@ room_of ps ts = record { purges = length ps; tints = length ts }
 abbrev pub Spells : Room → List ℕ → Type 0
 Spells room bs = (rs : List Record) × Lawful room rs × (written rs ≡ bs)
 
--- a table with the strokes xs at its start, and its later entries as they were
-abbrev pub over : List Stroke → List Stroke → List Stroke
-over xs old = xs ++ drop (length xs) old
-
 -- a table with the strokes of kind k at its start, and its later entries as they were
 abbrev pub filled : ℕ → List Record → List Stroke → List Stroke
 filled k rs old = strokes k rs ++ drop (count k rs) old

@@ -42,6 +42,7 @@ fn frame(kind: u8, tail: &[u8]) -> Result<usize, RecordFault>
 }
 
 /// What a whole record says.
+// Kind and body are two parameters and no struct: one would be built in `next` only to be taken apart here.
 fn field(kind: u8, body: &[u8]) -> Result<Record, FieldFault>
     requires body_value { length body.now ≡ body_in BODIES kind }
     requires body_nonzero { 0 < length body.now }

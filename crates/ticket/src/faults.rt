@@ -30,6 +30,7 @@ pub enum RecordFault {
 }
 
 /// The ticket is no can's. Each case holds its place in the ticket: of the faulty record's kind byte if nothing else is said.
+// The place stands in each case and in no struct around them, so that what it is the place of is told where the case is made.
 #[derive(Clone, Copy, Debug, PartialEq, Eq, Error)]
 pub enum CanFault {
     /// the place is the limit
@@ -88,6 +89,7 @@ impl Refusal for FieldFault {
     }
 }
 
+// Here and below a `match`: cases that hold values have no discriminants.
 impl Refusal for RecordFault {
     ghost number = { record_number };
 
@@ -135,8 +137,8 @@ impl CanFault {
     }
 }
 
-/// A fault's number and place give back the fault: no two faults have both in common. It is a function so that a contract
-/// promises it.
+/// A fault's number and place give back the fault: no two faults have both in common.
+// It is a function so that a contract promises it.
 pub fn numbers_stand()
     ensures { Numbered }
 {}

@@ -1,4 +1,5 @@
 //! The kinds of a ticket's records, and the length of the body of each.
+// Numbers and no enum: records are decided by ranges of kinds.
 ghost use Rattle.std.specs.Prelude.{◌≡◌};
 ghost use Rattle.ticket.specs.Kinds.{body_in};
 
@@ -20,8 +21,8 @@ pub const FIRST: u8 = 0x07;
 
 pub const END: u8 = 0x0F;
 
-/// The mark of an unknown kind: no known record has an empty body. No `Option` here, so that reader and promises share
-/// one array of plain lengths.
+/// The mark of an unknown kind: no known record has an empty body.
+// No `Option` here, so that reader and promises share one array of plain lengths.
 pub const UNKNOWN: u8 = 0;
 
 /// The body's length for each kind from HEAD to END. Reader and promises have it from here.

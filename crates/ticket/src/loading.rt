@@ -3,7 +3,8 @@ ghost use Rattle.std.specs.Prelude.{◌≡◌, ◌≤◌, length};
 ghost use Rattle.ticket.specs.Records.{Unambiguous};
 ghost use Rattle.ticket.specs.Samples.{Samples};
 ghost use Rattle.ticket.specs.Reading.{strokes_in, Whole};
-ghost use Rattle.ticket.specs.Loading.{over, Loading, Judged};
+ghost use Rattle.frame.specs.Bytes.{over};
+ghost use Rattle.ticket.specs.Loading.{Loading, Judged};
 
 use crate::faults::CanFault;
 use crate::kinds::{BODIES, PURGE, TINT, body_len};
@@ -71,8 +72,8 @@ pub fn load(bytes: &[u8], purges: &mut [Stroke], tints: &mut [Stroke]) -> Result
     Ok(loaded)
 }
 
-/// Two lists of records with the same writing are the same list. It and the next are functions so that contracts promise
-/// what they say.
+/// Two lists of records with the same writing are the same list.
+// It and the next are functions so that contracts promise what they say.
 pub fn unambiguous()
     ensures { Unambiguous }
 {}

@@ -8,7 +8,7 @@ use crate::loaded::Loaded;
 use crate::record::Record;
 use cursor::stride::Stride;
 
-/// The kinds of records lie below it.
+/// One more than the largest kind.
 const KINDS: usize = END as usize + 1;
 
 /// How many entries the two tables have.
@@ -19,12 +19,14 @@ pub struct Room {
 }
 
 /// What the records so far say, and the room that they are loaded into.
+// That the counts are small is said by clauses and no ghost field: definitions build a `Seen` too, and would have to prove it.
 #[derive(Clone, Copy, Debug)]
 pub struct Seen {
     pub room: Room,
     /// where the next record begins
     pub place: usize,
-    /// how many there are of each kind: an array and no map, since loading takes no heap
+    /// how many there are of each kind
+    // an array and no map: loading takes no heap
     counts: [usize; KINDS],
     /// what they say, but for the number of strokes, which is in the counts
     said: Loaded,

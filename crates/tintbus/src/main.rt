@@ -16,11 +16,6 @@ const TICKET_BYTES: usize = LONGEST + 1;
 
 const TABLE_ENTRIES: usize = 8192;
 
-const NONE: Stroke = Stroke {
-    valve: 0,
-    volume: 0,
-};
-
 /// Reads a file into the buffer, until the one ends or the other is full, and answers the bytes that came.
 fn read_into<'a>(file: &mut File, buf: &'a mut [u8]) -> io::Result<&'a [u8]> {
     let mut free = &mut *buf;
@@ -39,8 +34,8 @@ fn main(rt: HostRuntime) -> io::Result<ExitCode> {
             return Ok(ExitCode::FAILURE);
         }
     };
-    let mut purges = [NONE; TABLE_ENTRIES];
-    let mut tints = [NONE; TABLE_ENTRIES];
+    let mut purges = [Stroke::default(); TABLE_ENTRIES];
+    let mut tints = [Stroke::default(); TABLE_ENTRIES];
     match load(bytes, &mut purges, &mut tints) {
         Ok(loaded) => {
             words::show_settings(&rt, &loaded)?;

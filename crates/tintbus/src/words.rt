@@ -43,7 +43,8 @@ pub(crate) fn show_refusal(rt: &impl Print, fault: CanFault) -> io::Result<()> {
     println!(rt; "{fault}.")
 }
 
-/// The layers that a fault goes through, the outermost first. A function, since `Display` of a fault shows its meaning.
+/// The layers that a fault goes through, the outermost first.
+// A function, since `Display` of a fault shows its meaning.
 fn layers(fault: CanFault) -> &'static str {
     match fault {
         CanFault::Record(RecordFault::Field(_), _) => "can, record, field",

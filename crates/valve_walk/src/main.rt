@@ -13,12 +13,8 @@ const SAMPLE: &[u8] =
     b"\x01\x00\x00\x00\x07\x03\xE8\x03\x05\x00\x0A\x02\x01\x00\x64\x02\x02\x00\xC8\x06\x00\x00\x00\x00\x00\x00\x00\x02\x0F\x00\x03";
 
 fn main(rt: HostRuntime) -> io::Result<()> {
-    let none = Stroke {
-        valve: 0,
-        volume: 0,
-    };
-    let mut purges = [none; 4];
-    let mut tints = [none; 4];
+    let mut purges = [Stroke::default(); 4];
+    let mut tints = [Stroke::default(); 4];
     match load(SAMPLE, &mut purges, &mut tints) {
         Ok(loaded) => {
             let purges = &purges[..loaded.purges];

@@ -5,11 +5,12 @@ use cursor::{Cursor, Homing, TwoEnded};
 use frame::stroke::Stroke;
 use skip::Skip;
 use std::io;
+use std::io::Print;
 use take::Take;
 
 /// Shows the purges and then the tints, without the first `resume`, at most `limit`: from the front, and from the back.
 pub(crate) fn show_valve_row(
-    rt: &HostRuntime,
+    rt: &impl Print,
     purges: &[Stroke],
     tints: &[Stroke],
     resume: u64,
@@ -22,9 +23,10 @@ pub(crate) fn show_valve_row(
     show_from_back(rt, &mut pile)
 }
 
-// This and the next are two functions and not one that is given the call: each loop ends because its own call takes an item.
+// This and the next are two functions and not one that is given the call: each loop ends because its own call takes an item,
+// which a closure's contract would have to say.
 #[tactic(auto, using(cursor::proofs::Laws::sizes, cursor::proofs::Laws::places))]
-fn show_from_front<C: TwoEnded<Item = Stroke>>(rt: &HostRuntime, pile: &mut C) -> io::Result<()> {
+fn show_from_front<C: TwoEnded<Item = Stroke>>(rt: &impl Print, pile: &mut C) -> io::Result<()> {
     println!(rt; "Valve row, from the front: {}.", pile.len())?;
     while let Some(stroke) = pile.next() {
         show_stroke(rt, stroke)?;
@@ -33,7 +35,7 @@ fn show_from_front<C: TwoEnded<Item = Stroke>>(rt: &HostRuntime, pile: &mut C) -
 }
 
 #[tactic(auto, using(cursor::proofs::Laws::sizes, cursor::proofs::Laws::places))]
-fn show_from_back<C: TwoEnded<Item = Stroke>>(rt: &HostRuntime, pile: &mut C) -> io::Result<()> {
+fn show_from_back<C: TwoEnded<Item = Stroke>>(rt: &impl Print, pile: &mut C) -> io::Result<()> {
     println!(rt; "Valve row, from the back: {}.", pile.len())?;
     while let Some(stroke) = pile.next_back() {
         show_stroke(rt, stroke)?;
@@ -41,7 +43,7 @@ fn show_from_back<C: TwoEnded<Item = Stroke>>(rt: &HostRuntime, pile: &mut C) ->
     Ok(())
 }
 
-fn show_stroke(rt: &HostRuntime, stroke: Stroke) -> io::Result<()> {
+fn show_stroke(rt: &impl Print, stroke: Stroke) -> io::Result<()> {
     println!(rt;
         "  canister {}, {} hundredths of a ml",
         stroke.valve, stroke.volume

@@ -17,7 +17,8 @@ impl Shortfall {
         }
     }
 
-    /// The number of places; named as in NonZero, so no `From`.
+    /// The number of places.
+    // Named as in NonZero, so no `From`.
     pub fn get(self) -> u64
         ensures { result ≡ self.places }
     {
@@ -25,8 +26,8 @@ impl Shortfall {
     }
 }
 
-/// What an advance answers that lacks so many places: done, if it lacks none. This and its reverse are functions: neither of
-/// the two types is this crate's, so it can give them no `From`.
+/// What an advance answers that lacks so many places: done, if it lacks none.
+// This and its reverse are functions: neither of the two types is this crate's, so it can give them no `From`.
 pub fn short_by(places: u64) -> Result<(), Shortfall>
     ensures { lack result ≡ places }
 {
@@ -41,8 +42,5 @@ pub fn short_by(places: u64) -> Result<(), Shortfall>
 pub fn lacking(answer: Result<(), Shortfall>) -> u64
     ensures { result ≡ lack answer }
 {
-    match answer {
-        Ok(()) => 0,
-        Err(shortfall) => shortfall.get(),
-    }
+    answer.err().map_or(0, Shortfall::get)
 }

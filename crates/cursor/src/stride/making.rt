@@ -25,7 +25,8 @@ impl Stride {
         Stride { steps: 1 }
     }
 
-    /// The number of steps; named as in NonZero, so no `From`.
+    /// The number of steps.
+    // Named as in NonZero, so no `From`.
     pub fn get(self) -> u64
         ensures { result ≡ self.steps }
     {
