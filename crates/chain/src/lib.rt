@@ -117,6 +117,7 @@ impl<L: TwoEnded, R: TwoEnded<Item = L::Item>> TwoEnded for Chain<L, R> {
     }
 
     fn nth_back(&mut self, n: u64) -> Option<L::Item> {
+        // what `len` adds up, but each part by itself
         let a_len = self.a.len();
         let b_len = self.b.len();
         let a_shown = a_len.min(self.left);

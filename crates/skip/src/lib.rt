@@ -2,8 +2,8 @@
 
 #![tactic(auto, using(crate::proofs::Skips::skips, cursor::proofs::Costs::costs, cursor::proofs::Laws::places, cursor::proofs::Laws::cuts))]
 
-ghost use Rattle.std.specs.Prelude.{◌≡◌, ◌*◌};
-ghost use Rattle.cursor.specs.Rows.{after};
+ghost use Rattle.std.specs.Prelude.{◌≡◌, ◌-◌, ◌*◌};
+ghost use Rattle.cursor.specs.Rows.{Length, after, size};
 ghost use Rattle.cursor.specs.Closing.{closed_after};
 ghost use Rattle.skip.specs.Skips.{skip_row, skip_home};
 
@@ -93,14 +93,23 @@ impl<C: Cursor> Cursor for Skip<C> {
     }
 }
 
+impl<C: TwoEnded> Skip<C> {
+    /// How many items are shown; a function beside `len`, since the calls from the back also need that the row below ends.
+    fn shown(&self) -> u64
+        ensures value { result ≡ size (C.Cursor.row self.now.iter) - self.now.n }
+        ensures whole { Length (C.Cursor.row self.now.iter) (size (C.Cursor.row self.now.iter)) }
+    {
+        self.iter.len().saturating_sub(self.n)
+    }
+}
+
 impl<C: TwoEnded> TwoEnded for Skip<C> {
     fn len(&self) -> u64 {
-        self.iter.len().saturating_sub(self.n)
+        self.shown()
     }
 
     fn next_back(&mut self) -> Option<C::Item> {
-        // here and below the cursor below is asked, and not `self.len()`: tried, and the proof of what is left did not close
-        if self.iter.len() > self.n {
+        if self.shown() > 0 {
             self.iter.next_back()
         } else {
             None
@@ -108,7 +117,7 @@ impl<C: TwoEnded> TwoEnded for Skip<C> {
     }
 
     fn nth_back(&mut self, n: u64) -> Option<C::Item> {
-        let len = self.iter.len().saturating_sub(self.n);
+        let len = self.shown();
         if n < len {
             self.iter.nth_back(n)
         } else if len > 0 {
@@ -120,7 +129,7 @@ impl<C: TwoEnded> TwoEnded for Skip<C> {
     }
 
     fn advance_back(&mut self, n: u64) -> Result<(), Shortfall> {
-        let most = self.iter.len().saturating_sub(self.n).min(n);
+        let most = self.shown().min(n);
         let _ = self.iter.advance_back(most);
         short_by(n - most)
     }

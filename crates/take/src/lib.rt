@@ -2,8 +2,8 @@
 
 #![tactic(auto, using(crate::proofs::Takes::takes, cursor::proofs::Costs::costs, cursor::proofs::Laws::places, cursor::proofs::Laws::cuts))]
 
-ghost use Rattle.std.specs.Prelude.{◌≡◌};
-ghost use Rattle.cursor.specs.Rows.{first};
+ghost use Rattle.std.specs.Prelude.{◌≡◌, ◌-◌};
+ghost use Rattle.cursor.specs.Rows.{Length, first, size};
 ghost use Rattle.cursor.specs.Closing.{closed_first};
 ghost use Rattle.take.specs.Takes.{take_row, take_home};
 
@@ -85,6 +85,16 @@ impl<C: Cursor> Cursor for Take<C> {
     }
 }
 
+impl<C: TwoEnded> Take<C> {
+    /// How many items below lie behind the last that is shown.
+    fn over(&self) -> u64
+        ensures value { result ≡ size (C.Cursor.row self.now.iter) - self.now.n }
+        ensures whole { Length (C.Cursor.row self.now.iter) (size (C.Cursor.row self.now.iter)) }
+    {
+        self.iter.len().saturating_sub(self.n)
+    }
+}
+
 impl<C: TwoEnded> TwoEnded for Take<C> {
     fn len(&self) -> u64 {
         self.iter.len().min(self.n)
@@ -94,29 +104,27 @@ impl<C: TwoEnded> TwoEnded for Take<C> {
         if self.n == 0 {
             None
         } else {
-            let over = self.iter.len().saturating_sub(self.n);
+            let over = self.over();
             self.n -= 1;
             self.iter.nth_back(over)
         }
     }
 
     fn nth_back(&mut self, n: u64) -> Option<C::Item> {
-        let len = self.iter.len();
         if self.n > n {
-            let over = len.saturating_sub(self.n);
+            let over = self.over();
             self.n -= n + 1;
-            self.iter.nth_back(over + n)
-        } else if len > 0 {
-            let _ = self.iter.advance_back(len);
-            None
-        } else {
-            None
+            return self.iter.nth_back(over + n);
         }
+        let len = self.iter.len();
+        if len > 0 {
+            let _ = self.iter.advance_back(len);
+        }
+        None
     }
 
     fn advance_back(&mut self, n: u64) -> Result<(), Shortfall> {
-        // how many items below lie behind the last that is shown
-        let over = self.iter.len().saturating_sub(self.n);
+        let over = self.over();
         let most = over.saturating_add(n);
         let advanced = most - lacking(self.iter.advance_back(most)) - over;
         self.n -= advanced;
