@@ -1,7 +1,7 @@
 -- What a call of a pile answers and leaves, by the cursors' own definitions, and the frame that shows the answer.
 use Rattle.std.specs.Prelude.{ℕ, ◌+◌, ◌-◌, if◌then◌else◌, List, [], ◌∷◌, Some, None}
 use Rattle.cursor.specs.Rows.{Row, after, first, taken, size, back}
-use Rattle.frame.specs.Bytes.{be8}
+use Rattle.frame.specs.Bytes.{be}
 use Rattle.frame.specs.declared.framed.Framed as Framed
 use Rattle.bus.specs.declared.answer.Answer.{Answer}
 use Rattle.bus.specs.declared.answer.Answer.TheVariants.{Item, Advanced}
@@ -42,4 +42,4 @@ leaves q r = if is_back q.call then first (size r - reach q) r else after (reach
 abbrev pub frame : {A : Type 0} → Framed.Ghosts A → ℕ → Answer A → List ℕ
 frame f d (Item (Some x)) = f.KIND ∷ d ∷ f.body x
 frame f d (Item None) = 0x25 ∷ d ∷ []
-frame f d (Advanced s) = 0x26 ∷ d ∷ be8 s
+frame f d (Advanced s) = 0x26 ∷ d ∷ be 8 s

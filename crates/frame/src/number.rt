@@ -1,5 +1,5 @@
 //! Numbers, as frames carry them: a canister to stir, for one.
-ghost use Rattle.frame.specs.Bytes.{be8};
+ghost use Rattle.frame.specs.Bytes.{be};
 ghost use Rattle.std.proofs.Common.{rules};
 
 use crate::framed::Framed;
@@ -13,7 +13,7 @@ impl Framed for u64 {
 
     ghost BODY = { 8 };
 
-    ghost body = { be8 };
+    ghost body = { be 8 };
 
     ghost free = { Prim.search rules };
 

@@ -1,6 +1,6 @@
 //! Strokes, as frames carry them.
 ghost use Rattle.std.specs.Prelude.{◌∷◌};
-ghost use Rattle.frame.specs.Bytes.{be2};
+ghost use Rattle.frame.specs.Bytes.{be};
 ghost use Rattle.std.proofs.Common.{rules};
 
 use crate::framed::Framed;
@@ -23,7 +23,7 @@ impl Framed for Stroke {
 
     ghost BODY = { 3 };
 
-    ghost body = { λ s. s.valve ∷ be2 s.volume };
+    ghost body = { λ s. s.valve ∷ be 2 s.volume };
 
     ghost free = { Prim.search rules };
 
