@@ -5,7 +5,7 @@ use Rattle.std.proofs.lemmas.Bool.{cases_lt}
 use Rattle.std.proofs.lemmas.Bool.Decides.{nat_tests}
 use Rattle.cursor.specs.Rows.{Row, Closed, Length, after, first, taken, size, back, back_at}
 use Rattle.cursor.specs.Closing.{closed_on, taken_le}
-use Rattle.cursor.proofs.Laws.{after_zero, back_out, length_after, taken_length, taken_after, taken_short, size_length, size_after}
+use Rattle.cursor.proofs.Laws.{after_zero, back_out, taken_length, taken_after, taken_short, size_after}
 
 none_taken : {A : Type 0} (r : Row A) → Closed r → (k m : ℕ) → r k ≡ None → taken (after k r) m ≡ 0
 unfolding after

@@ -5,7 +5,7 @@ use Rattle.std.proofs.lemmas.Bool.{cases_lt}
 use Rattle.std.proofs.lemmas.Bool.Decides.{nat_tests}
 use Rattle.cursor.specs.Rows.{Row, Closed, Length, after, first, taken, size, back, back_at}
 use Rattle.cursor.specs.Closing.{closed_on, taken_le}
-use Rattle.cursor.proofs.Laws.{size_fits, back_out, first_first, length_first, taken_first, taken_short, size_length, size_first, size_none}
+use Rattle.cursor.proofs.Laws.{size_fits, back_out, first_first, taken_first, taken_short, size_first, size_none}
 
 -- the front: k of the m places asked for are within the n, and a of those have an item
 pub take_ahead : {A : Type 0} (n n' m k : ℕ) (r r' : Row A) → Closed r → k ≡ min n m → n' ≡ n - taken r k → r' ≡ after k r → first n' r' ≡ after m (first n r)

@@ -1,6 +1,5 @@
 //! The checks of one record, in their order.
 ghost use Rattle.std.specs.Prelude.{◌≡◌, ◌+◌, ◌^◌, ◌<◌, length};
-ghost use Rattle.std.specs.Int.Digits.{number_from_digits};
 ghost use Rattle.ticket.specs.declared.faults.RecordFault.TheVariants.{Field};
 ghost use Rattle.ticket.specs.Numbers.{map_err};
 ghost use Rattle.ticket.specs.Kinds.{body_in};
