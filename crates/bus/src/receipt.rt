@@ -12,11 +12,14 @@ use refusal::Refusal;
 pub fn write_receipt<R: Refusal>(answer: Result<Party, R>, out: &mut [u8]) -> Result<usize, Fault>
     ensures { Told (notice R.number answer) out.old result out.new }
 {
+    // The room is tested before anything else; it is told only below, since the answer must be used up first: a refusal's type
+    // need not be one that can be let go.
+    let is_short = out.len() < ROOM;
     let (kind, byte) = match answer {
         Ok(party) => (Kind::Accepted, party.into()),
         Err(refusal) => (Kind::Refused, refusal.number()),
     };
-    if out.len() < ROOM {
+    if is_short {
         return Err(Fault::Short);
     }
     out[0] = kind as u8;
