@@ -4,7 +4,6 @@ use native.Mathlib.Nat.{pow-zero}
 use Rattle.std.specs.Int.Digits.{number_from_digits, number_from_digits_after, AllBelowBase}
 use Rattle.std.proofs.lemmas.Int.Digits.{number_push, number_more, number_lt}
 use Rattle.std.proofs.lemmas.List.Elements.{All-from_recursion, recursion_from_All, All-push, All-take, All-drop, All-from_get_or}
-use Rattle.byteorder.specs.Endian.{big_number as read_of}
 use Rattle.ticket.specs.Records.{big}
 
 abbrev Byte : ℕ → Type 0
@@ -21,22 +20,36 @@ under_take n bs u = recursion_from_All Byte (take n bs) (All-take Byte n bs (All
 pub under_drop : (n : ℕ) (bs : List ℕ) → AllBelowBase 256 bs → AllBelowBase 256 (drop n bs)
 under_drop n bs u = recursion_from_All Byte (drop n bs) (All-drop Byte n bs (All-from_recursion Byte bs u))
 
--- what is read of eight bytes is the number that they spell
-pub read_8 : (n : ℕ) (xs : List ℕ) → n ≡ read_of 8 xs → length xs ≡ 8 → n ≡ number_from_digits 256 xs
-read_8 n xs e h =
-    let more : (i : ℕ) → i < length xs → number_from_digits 256 (take (i + 1) xs) ≡ number_from_digits 256 (take i xs) * 256 + get_or xs i 0 = number_more 256 xs in
-    omega (
-      arith,
-      more 0 (omega arith),
-      more 1 (omega arith),
-      more 2 (omega arith),
-      more 3 (omega arith),
-      more 4 (omega arith),
-      more 5 (omega arith),
-      more 6 (omega arith),
-      more 7 (omega arith),
-      ap (number_from_digits 256) (take_all 8 xs (omega arith)),
-    )
+-- the sums that the machine's numbers are made by
+module _ (xs : List ℕ) where
+  abbrev x : ℕ → ℕ
+  x i = get_or xs i 0
+
+  more : (i : ℕ) → i < length xs → number_from_digits 256 (take (i + 1) xs) ≡ number_from_digits 256 (take i xs) * 256 + x i
+  more i h = number_more 256 xs i h
+
+  pub number_in_2 : length xs ≡ 2 → x 0 * 256 + x 1 ≡ number_from_digits 256 xs
+  number_in_2 h = omega (arith, more 0 (omega arith), more 1 (omega arith), ap (number_from_digits 256) (take_all 2 xs (omega arith)))
+
+  pub number_in_4 : length xs ≡ 4 → x 0 * 16777216 + x 1 * 65536 + x 2 * 256 + x 3 ≡ number_from_digits 256 xs
+  number_in_4 h =
+      omega (arith, more 0 (omega arith), more 1 (omega arith), more 2 (omega arith), more 3 (omega arith), ap (number_from_digits 256) (take_all 4 xs (omega arith)))
+
+  pub number_in_8 : length xs ≡ 8
+      → x 0 * 72057594037927936 + x 1 * 281474976710656 + x 2 * 1099511627776 + x 3 * 4294967296 + x 4 * 16777216 + x 5 * 65536 + x 6 * 256 + x 7 ≡ number_from_digits 256 xs
+  number_in_8 h =
+      omega (
+        arith,
+        more 0 (omega arith),
+        more 1 (omega arith),
+        more 2 (omega arith),
+        more 3 (omega arith),
+        more 4 (omega arith),
+        more 5 (omega arith),
+        more 6 (omega arith),
+        more 7 (omega arith),
+        ap (number_from_digits 256) (take_all 8 xs (omega arith)),
+      )
 
 pub big_length : (w n : ℕ) → length (big w n) ≡ w
 unfolding big

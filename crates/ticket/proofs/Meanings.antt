@@ -5,13 +5,13 @@ use Rattle.frame.specs.declared.stroke.Stroke.{Stroke}
 use Rattle.ticket.specs.declared.faults.CanFault.{CanFault}
 use Rattle.ticket.specs.declared.record.Record.{Record}
 use Rattle.ticket.specs.declared.loaded.Loaded.{Loaded}
-use Rattle.ticket.specs.Lists.{Says}
+use Rattle.ticket.specs.Lists.{Says, strokes}
 use Rattle.ticket.specs.Refusals.{Refuses}
 use Rattle.frame.specs.Bytes.{over}
 use Rattle.ticket.specs.Loading.{room_of, Loading, Judged}
 use Rattle.ticket.specs.Reading.{strokes_in}
 use Rattle.ticket.proofs.Codes.{bodies, unique}
-use Rattle.ticket.proofs.Fills.{lawful_fits, lawful_room, over_is}
+use Rattle.ticket.proofs.Fills.{lawful_fits, lawful_room, adds_tint, adds_purge, over_is}
 use Rattle.ticket.proofs.Verdicts.{never, only}
 
 -- for callers: the counts that loading answers lie within the tables
@@ -25,7 +25,7 @@ within table bs ps ps' ts ts' l h =
 
 module _ (bs : List ℕ) (ps ts : List Stroke) where
   pub accepts : (ps' ts' : List Stroke) (l : Loaded) → Judged bodies (room_of ps ts) bs (Ok l)
-      → ps' ≡ over (strokes_in bodies 3 bs) ps → ts' ≡ over (strokes_in bodies 2 bs) ts → Loading bodies bs ps ps' ts ts' (Ok l)
+      → ps' ≡ over (strokes 3 (strokes_in bodies bs)) ps → ts' ≡ over (strokes 2 (strokes_in bodies bs)) ts → Loading bodies bs ps ps' ts ts' (Ok l)
   accepts ps' ts' l j p t =
       let room = room_of ps ts in
       record {
@@ -34,8 +34,8 @@ module _ (bs : List ℕ) (ps ts : List Stroke) where
             record {
               loaded = l;
               answers = refl;
-              purges = p ∙ over_is 3 refl room rs law bs w ps;
-              tints = t ∙ over_is 2 refl room rs law bs w ts;
+              purges = p ∙ over_is 3 adds_purge room rs law bs w ps;
+              tints = t ∙ over_is 2 adds_tint room rs law bs w ts;
               says = subst (λ (z : List Record). Says z l) (unique j.0 rs (lawful_fits room j.0 j.1) (lawful_fits room rs law) (j.2 ∙ sym w)) j.3;
             };
         why = λ e h. cc;

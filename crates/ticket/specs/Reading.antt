@@ -36,23 +36,24 @@ number_in i w xs = number_from_digits 256 (take w (drop i xs))
 abbrev pub stroke_in : List ℕ → Stroke
 stroke_in xs = record { valve = slice_index xs 0; volume = number_in 1 2 xs }
 
--- the strokes of kind k in the bytes of whole records, of which n are read at most
-abbrev pub strokes_within : List ℕ → ℕ → ℕ → List ℕ → List Stroke
-strokes_within table zero k bs = []
-strokes_within table (suc n) k [] = []
-strokes_within table (suc n) k (b ∷ bs) =
-    let later = strokes_within table n k (drop (body_in table b) bs) in
-    if b == k then stroke_in (take (body_in table b) bs) ∷ later else later
+-- the later records, behind that of kind k and body xs where k is a stroke's kind
+abbrev pub poured : ℕ → List ℕ → List Entry → List Entry
+poured k xs later = if k == 2 then Tint (stroke_in xs) ∷ later else if k == 3 then Purge (stroke_in xs) ∷ later else later
 
-unfoldable pub strokes_in : List ℕ → ℕ → List ℕ → List Stroke
-strokes_in table k bs = strokes_within table (length bs) k bs
+-- the records of strokes in the bytes of whole records, of which n are read at most
+abbrev pub strokes_within : List ℕ → ℕ → List ℕ → List Entry
+strokes_within table zero bs = []
+strokes_within table (suc n) [] = []
+strokes_within table (suc n) (b ∷ bs) = poured b (take (body_in table b) bs) (strokes_within table n (drop (body_in table b) bs))
 
--- the bytes are those of whole records, and the records of kind k are strokes
-pub record Whole (table : List ℕ) (k : ℕ) (bs : List ℕ) : Type 0 where
+unfoldable pub strokes_in : List ℕ → List ℕ → List Entry
+strokes_in table bs = strokes_within table (length bs) bs
+
+-- the bytes are those of whole records
+pub record Whole (bs : List ℕ) : Type 0 where
   pub rs : List Entry
   pub fits : All Fits rs
   pub bytes : written rs ≡ bs
-  pub strokes : body_in table k ≡ 3
 
 -- a stride in a body that does not hold 0
 abbrev pub stride_in : ℕ → Stride

@@ -1,5 +1,6 @@
 //! The checks of one record, in their order.
 ghost use Rattle.std.specs.Prelude.{◌≡◌, ◌+◌, ◌^◌, ◌<◌, length};
+ghost use Rattle.std.specs.Int.Digits.{number_from_digits};
 ghost use Rattle.ticket.specs.declared.faults.RecordFault.TheVariants.{Field};
 ghost use Rattle.ticket.specs.Numbers.{map_err};
 ghost use Rattle.ticket.specs.Kinds.{body_in};
@@ -11,12 +12,36 @@ use crate::kinds::{
 };
 use crate::record::Record;
 use crate::seen::Seen;
-use byteorder::{BigEndian, ByteOrder};
 use cursor::stride::Stride;
 use frame::stroke::Stroke;
 
 /// The machine has canisters 0 to 15, with a valve each.
 const TOP: u8 = 15;
+
+/// Numbers stand in tickets with the most significant byte first.
+// This and the next two are proved here, over std alone: the kit's `byteorder` would have to be trusted too.
+fn be16(bytes: &[u8]) -> u16
+    requires { length bytes.now ≡ 2 }
+    ensures { result ≡ number_from_digits 256 bytes.now }
+{
+    u16::from_be_bytes([bytes[0], bytes[1]])
+}
+
+fn be32(bytes: &[u8]) -> u32
+    requires { length bytes.now ≡ 4 }
+    ensures { result ≡ number_from_digits 256 bytes.now }
+{
+    u32::from_be_bytes([bytes[0], bytes[1], bytes[2], bytes[3]])
+}
+
+fn be64(bytes: &[u8]) -> u64
+    requires { length bytes.now ≡ 8 }
+    ensures { result ≡ number_from_digits 256 bytes.now }
+{
+    u64::from_be_bytes([
+        bytes[0], bytes[1], bytes[2], bytes[3], bytes[4], bytes[5], bytes[6], bytes[7],
+    ])
+}
 
 /// A stroke's body.
 pub fn stroke(body: &[u8]) -> Stroke
@@ -25,7 +50,7 @@ pub fn stroke(body: &[u8]) -> Stroke
 {
     Stroke {
         valve: body[0],
-        volume: BigEndian::read_u16(&body[1..]),
+        volume: be16(&body[1..3]),
     }
 }
 
@@ -49,14 +74,14 @@ fn field(kind: u8, body: &[u8]) -> Result<Record, FieldFault>
 {
     match kind {
         TINT..=PURGE | FIRST if body[0] > TOP => Err(FieldFault::High),
-        HEAD => Ok(Record::Head(BigEndian::read_u32(body), BigEndian::read_u16(&body[4..]))),
+        HEAD => Ok(Record::Head(be32(&body[0..4]), be16(&body[4..6]))),
         TINT => Ok(Record::Tint(stroke(body))),
         PURGE => Ok(Record::Purge(stroke(body))),
-        RESUME => Ok(Record::Resume(BigEndian::read_u64(body))),
-        LIMIT => Ok(Record::Limit(BigEndian::read_u64(body))),
-        STRIDE => Ok(Record::Every(Stride::new(BigEndian::read_u64(body))?)),
+        RESUME => Ok(Record::Resume(be64(body))),
+        LIMIT => Ok(Record::Limit(be64(body))),
+        STRIDE => Ok(Record::Every(Stride::new(be64(body))?)),
         FIRST => Ok(Record::First(body[0])),
-        _ => Ok(Record::End(BigEndian::read_u16(body))),
+        _ => Ok(Record::End(be16(body))),
     }
 }
 

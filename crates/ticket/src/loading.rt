@@ -2,6 +2,7 @@
 ghost use Rattle.std.specs.Prelude.{◌≡◌, ◌≤◌, length};
 ghost use Rattle.ticket.specs.Records.{Unambiguous};
 ghost use Rattle.ticket.specs.Samples.{Samples};
+ghost use Rattle.ticket.specs.Lists.{strokes};
 ghost use Rattle.ticket.specs.Reading.{strokes_in, Whole};
 ghost use Rattle.frame.specs.Bytes.{over};
 ghost use Rattle.ticket.specs.Loading.{Loading, Judged};
@@ -40,19 +41,28 @@ fn judge(bytes: &[u8], room: Room) -> Result<Loaded, CanFault>
     Err(CanFault::NoEnd(bytes.len()))
 }
 
-/// Writes the strokes of one kind of a lawful ticket to the start of their table.
-fn fill(kind: u8, bytes: &[u8], table: &mut [Stroke])
-    requires whole { Whole BODIES kind bytes.now }
-    requires room { length (strokes_in BODIES kind bytes.now) ≤ length table.old }
-    ensures { table.new ≡ over (strokes_in BODIES kind bytes.now) table.old }
+/// Writes the strokes of a lawful ticket to the starts of their tables.
+// One walk for both: with a function for one kind, called for each, `load` took up to 1.3 times as long (docs/LOOK-BACK.md).
+fn fill(bytes: &[u8], purges: &mut [Stroke], tints: &mut [Stroke])
+    requires whole { Whole bytes.now }
+    requires purges { length (strokes PURGE (strokes_in BODIES bytes.now)) ≤ length purges.old }
+    requires tints { length (strokes TINT (strokes_in BODIES bytes.now)) ≤ length tints.old }
+    ensures purges { purges.new ≡ over (strokes PURGE (strokes_in BODIES bytes.now)) purges.old }
+    ensures tints { tints.new ≡ over (strokes TINT (strokes_in BODIES bytes.now)) tints.old }
 {
-    let mut strokes = Strokes { kind, rest: bytes };
-    // not `iter_mut().zip(strokes)`: tried, and then nothing is known of what the entries hold
-    for entry in table {
-        let Some(stroke) = strokes.next() else {
-            break;
-        };
-        *entry = stroke;
+    let (mut p, mut t) = (0, 0);
+    for record in (Strokes { rest: bytes }) {
+        match record {
+            Record::Purge(stroke) => {
+                purges[p] = stroke;
+                p += 1;
+            }
+            Record::Tint(stroke) => {
+                tints[t] = stroke;
+                t += 1;
+            }
+            _ => {}
+        }
     }
 }
 
@@ -67,8 +77,7 @@ pub fn load(bytes: &[u8], purges: &mut [Stroke], tints: &mut [Stroke]) -> Result
         tints: tints.len(),
     };
     let loaded = judge(bytes, room)?;
-    fill(PURGE, bytes, purges);
-    fill(TINT, bytes, tints);
+    fill(bytes, purges, tints);
     Ok(loaded)
 }
 

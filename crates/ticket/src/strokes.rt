@@ -1,12 +1,12 @@
-//! The strokes of one kind in the bytes of a lawful ticket.
+//! The strokes in the bytes of a lawful ticket.
 use crate::checks::stroke;
-use crate::kinds::{BODIES, body_len};
-use frame::stroke::Stroke;
+use crate::kinds::{BODIES, PURGE, TINT, body_len};
+use crate::record::Record;
 
-/// The strokes of one kind that are still to come, in ticket order.
+/// The strokes that are still to come, each as its record, in ticket order.
+// Of both kinds, so that the bytes are walked once for both tables.
 #[derive(Drop)]
 pub struct Strokes<'a> {
-    pub kind: u8,
     pub rest: &'a [u8],
 }
 
@@ -15,20 +15,22 @@ impl Iterator for Strokes<'_> {
     ghost use Rattle.ticket.specs.Reading.{strokes_in, Whole};
     ghost use Rattle.ticket.specs.declared.kinds.TheConstants.{BODIES};
 
-    type Item = Stroke;
+    type Item = Record;
 
-    ghost can_next = { λ s. Whole BODIES s.kind s.rest.now };
+    ghost can_next = { λ s. Whole s.rest.now };
 
-    ghost next_gives = { YieldsFirst (λ s. strokes_in BODIES s.kind s.rest.now) };
+    ghost next_gives = { YieldsFirst (λ s. strokes_in BODIES s.rest.now) };
 
-    ghost remaining = { item_count (λ s. strokes_in BODIES s.kind s.rest.now) };
+    ghost remaining = { item_count (λ s. strokes_in BODIES s.rest.now) };
 
-    fn next(&mut self) -> Option<Stroke> {
+    fn next(&mut self) -> Option<Record> {
         while let Some((&kind, tail)) = self.rest.split_first() {
             let (body, rest) = tail.split_at(body_len(kind) as usize);
             self.rest = rest;
-            if kind == self.kind {
-                return Some(stroke(body));
+            match kind {
+                TINT => return Some(Record::Tint(stroke(body))),
+                PURGE => return Some(Record::Purge(stroke(body))),
+                _ => {}
             }
         }
         None

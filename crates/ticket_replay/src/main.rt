@@ -6,7 +6,6 @@
 ghost use Rattle.std.specs.Prelude.{length};
 ghost use Rattle.std.specs.Iterator.{at_most};
 
-use byteorder::{BigEndian, ByteOrder};
 use frame::stroke::Stroke;
 use refusal::Refusal;
 use std::io::Print;
@@ -40,13 +39,13 @@ impl<'a> Iterator for Cases<'a> {
 
     fn next(&mut self) -> Option<Case<'a>> {
         let (head, rest) = self.rest.split_at_checked(CASE_HEAD)?;
-        let len = BigEndian::read_u16(&head[4..]) as usize;
+        let len = u16::from_be_bytes([head[4], head[5]]) as usize;
         let (ticket, rest) = rest.split_at_checked(len)?;
         self.rest = rest;
         Some(Case {
             ticket,
-            purge_entries: BigEndian::read_u16(head) as usize,
-            tint_entries: BigEndian::read_u16(&head[2..]) as usize,
+            purge_entries: u16::from_be_bytes([head[0], head[1]]) as usize,
+            tint_entries: u16::from_be_bytes([head[2], head[3]]) as usize,
         })
     }
 }

@@ -5,8 +5,8 @@ use Rattle.ticket.proofs.strokes.StrokesIterator.next.Given as goal
 
 abbrev pub invariant-loop-kind : goal.invariant-loop-kind
 invariant-loop-kind l = record {
-  whole : Whole bodies l.self.kind l.self.rest.now;
-  left : strokes_in bodies l.self.kind l.self.rest.now ≡ strokes_in bodies l.fn.self.kind l.fn.self.rest.now;
+  whole : Whole l.self.rest.now;
+  left : strokes_in bodies l.self.rest.now ≡ strokes_in bodies l.fn.self.rest.now;
 }
 
 abbrev pub decreases-loop-kind : goal.decreases-loop-kind
