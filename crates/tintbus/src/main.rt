@@ -2,6 +2,8 @@
 
 #![tactic(auto)]
 
+ghost use Rattle.std.specs.Prelude.{◌≤◌, length, IfOk};
+
 use frame::stroke::Stroke;
 use std::fs::File;
 use std::io;
@@ -17,11 +19,20 @@ const TICKET_BYTES: usize = LONGEST + 1;
 const TABLE_ENTRIES: usize = 8192;
 
 /// Reads a file into the buffer, until the one ends or the other is full, and answers the bytes that came.
-fn read_into<'a>(file: &mut File, buf: &'a mut [u8]) -> io::Result<&'a [u8]> {
-    let mut free = &mut *buf;
-    let came = io::copy(&mut file.take(free.len() as u64), &mut free)? as usize;
-    // `copy` does not promise that no more came than `take` lets through
-    Ok(&buf[..came.min(buf.len())])
+// A loop and no `io::copy`: that tries again where a read is interrupted, which is told here, and reads by pieces of 8 KB through
+// a buffer of its own.
+fn read_into<'a>(file: &mut File, buf: &'a mut [u8]) -> io::Result<&'a [u8]>
+    ensures { IfOk result (λ bytes. length bytes.now ≤ length buf.old) }
+{
+    let mut n = 0;
+    while n < buf.len() {
+        let got = file.read(&mut buf[n..])?;
+        if got == 0 {
+            break;
+        }
+        n += got;
+    }
+    Ok(&buf[..n])
 }
 
 fn main(rt: HostRuntime) -> io::Result<ExitCode> {
